@@ -1,0 +1,14 @@
+//! The edge of the program: lists and text that contracts see as plain lists, the files that it reads and writes (a
+//! [`Shelf`]), what it prints to (a [`Sink`]), and what its workers pass before a turn (a [`Gate`]).
+#![tactic(auto)]
+
+mod boxed;
+mod items;
+mod text;
+
+pub use boxed::Boxed;
+pub use items::{Bytes, List};
+pub use text::Text;
+
+/// Want of memory. It may come from every call that grows something, and no contract says when.
+pub type Memory = std::alloc::AllocError;
