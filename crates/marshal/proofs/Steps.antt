@@ -5,10 +5,8 @@ use Rattle.std.proofs.lemmas.List.{length-take-le, take-append-drop, append_asso
 use Rattle.std.proofs.lemmas.Int.{to_z-of_z}
 use mir.Val.{Fits}
 use Rattle.global_ptr.specs.declared.values.Addr.{Addr}
-use Rattle.global_ptr.specs.declared.values.Value.{Value}
-use Rattle.global_ptr.specs.declared.values.Value.TheVariants.{Int, Ptr}
-use Rattle.marshal.specs.Spellings.{IsByte, IsNumber, IsSignedNumber, ◌▸◌, Takes, BeginsWith, IsPartial}
-use Rattle.marshal.specs.Values.{SpellsAddress, SpellsValue, IsValue, PutsValue}
+use Rattle.marshal.specs.Spellings.{IsByte, IsNumber, IsSignedNumber, ◌▸◌, Takes, BeginsWith, IsPartial, Puts}
+use Rattle.marshal.specs.Values.{SpellsAddress, IsValue}
 use Rattle.marshal.proofs.NumberLaws.{IsBytes, IsBytes-tail, IsBytes-front, AnyBytes, number_of_2, number_of_4, signed_of_8}
 use Rattle.marshal.proofs.ValueLaws.{length-address}
 
@@ -64,20 +62,20 @@ tagged_is_partial tag bytes rest first cut is partial = subst (IsPartial IsValue
 pub IsBytes-rest : (bytes rest : List ℕ) (first : ℕ) → ((i : ℕ) → Fits w8 (get_or bytes i 0)) → bytes ≡ first ∷ rest → IsBytes rest
 IsBytes-rest bytes rest first all cut = IsBytes-tail first rest (subst IsBytes cut (IsBytes-of bytes all))
 
-pub puts_number : (old tagged new bytes : List ℕ) (v : Value) (n : ℤ) → FitsSigned w64 n → v ≡ Int n → tagged ≡ old ++ 1 ∷ [] → bytes ≡ to_be_bytes w64 (cast_unsigned w64 (cast_signed w64 (cast_unsigned w64 n))) → new ≡ tagged ++ bytes → PutsValue old new v
-puts_number old tagged new bytes v n fits is first number all = record {
-  bytes = 1 ∷ bytes;
-  spelled = subst (λ w. SpellsValue w (1 ∷ bytes)) (sym is) (record { front = 1 ∷ []; back = bytes; first = refl; second = record { fits = fits; big_endian = number ∙ ap (λ z. to_be_bytes w64 (cast_unsigned w64 z)) (to_z-of_z w64 n fits) }; whole = refl });
-  whole = all ∙ ap (λ l. l ++ bytes) first ∙ append_assoc old (1 ∷ []) bytes;
+pub puts_follow : (P Q : List ℕ → Type 0) (old between new : List ℕ) → Puts P old between → Puts Q between new → Puts (P ▸ Q) old new
+puts_follow P Q old between new p q = record {
+  spelling = p.spelling ++ q.spelling;
+  spelled = record { front = p.spelling; back = q.spelling; first = p.spelled; second = q.spelled; whole = refl };
+  whole = q.whole ∙ ap (λ l. l ++ q.spelling) p.whole ∙ append_assoc old p.spelling q.spelling;
 }
 
-pub puts_address : (old tagged behind_processor behind_object new processor object offset : List ℕ) (v : Value) (a : Addr) →
-    v ≡ Ptr a → tagged ≡ old ++ 3 ∷ [] →
-    IsNumber w32 a.processor processor → behind_processor ≡ tagged ++ processor →
-    IsNumber w32 a.object object → behind_object ≡ behind_processor ++ object →
-    IsNumber w32 a.offset offset → new ≡ behind_object ++ offset → PutsValue old new v
-puts_address old tagged behind_processor behind_object new processor object offset v a is first p p_put o o_put f f_put =
-    let address = processor ++ (object ++ offset) in
-    let spelled : SpellsValue (Ptr a) (3 ∷ address) = record { front = 3 ∷ []; back = address; first = refl; second = record { front = processor; back = object ++ offset; first = p; second = record { front = object; back = offset; first = o; second = f; whole = refl }; whole = refl }; whole = refl } in
-    let parts : new ≡ (((old ++ 3 ∷ []) ++ processor) ++ object) ++ offset = cc in
-    record { bytes = 3 ∷ address; spelled = subst (λ w. SpellsValue w (3 ∷ address)) (sym is) spelled; whole = parts ∙ simp append_assoc }
+pub puts_byte : (byte : ℕ) (old new : List ℕ) → new ≡ old ++ byte ∷ [] → Puts (IsByte byte) old new
+puts_byte byte old new put = record { spelling = byte ∷ []; spelled = refl; whole = put }
+
+-- the number as the code has it, cast to its bits and back
+pub puts_signed : (old new bytes : List ℕ) (n : ℤ) → FitsSigned w64 n → bytes ≡ to_be_bytes w64 (cast_unsigned w64 (cast_signed w64 (cast_unsigned w64 n))) → new ≡ old ++ bytes → Puts (IsSignedNumber n) old new
+puts_signed old new bytes n fits is put = record {
+  spelling = bytes;
+  spelled = record { fits = fits; big_endian = is ∙ ap (λ z. to_be_bytes w64 (cast_unsigned w64 z)) (to_z-of_z w64 n fits) };
+  whole = put;
+}

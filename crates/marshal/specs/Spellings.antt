@@ -63,6 +63,12 @@ pub record IsWrongAt (P : List ℕ → Type 0) (bytes : List ℕ) (at : ℕ) : T
 abbrev pub IsPrefixFree : (List ℕ → Type 0) → Type 0
 IsPrefixFree P = (s t x y : List ℕ) → P s → P t → s ++ x ≡ t ++ y → s ≡ t
 
+-- a spelling of the set is put at the end
+pub record Puts (P : List ℕ → Type 0) (old new : List ℕ) : Type 0 where
+  pub spelling : List ℕ
+  pub spelled : P spelling
+  pub whole : new ≡ old ++ spelling
+
 -- something may have been put at the end
 abbrev pub Extends : List ℕ → List ℕ → Type 0
 Extends old new = (more : List ℕ) × (new ≡ old ++ more)

@@ -1,5 +1,5 @@
 -- How a value is spelled in bytes. This project's own.
-use Rattle.std.specs.Prelude.{◌≡◌, ℕ, List, ◌++◌, Result, Ok, Err}
+use Rattle.std.specs.Prelude.{ℕ, List, Result, Ok, Err}
 use Rattle.std.specs.Int.{w32}
 use Rattle.global_ptr.specs.declared.values.Addr.{Addr}
 use Rattle.global_ptr.specs.declared.values.Value.{Value}
@@ -22,12 +22,6 @@ SpellsValue (Ptr a) = IsByte 3 ▸ SpellsAddress a
 -- the bytes of some value
 abbrev pub IsValue : List ℕ → Type 0
 IsValue bytes = (value : Value) × SpellsValue value bytes
-
--- the bytes of the value are put at the end
-pub record PutsValue (old new : List ℕ) (value : Value) : Type 0 where
-  pub bytes : List ℕ
-  pub spelled : SpellsValue value bytes
-  pub whole : new ≡ old ++ bytes
 
 -- what the bytes say of the value with which they begin
 abbrev pub Reads : List ℕ → Result (Value × ℕ) ValueFault → Type 0

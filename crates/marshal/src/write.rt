@@ -1,7 +1,8 @@
 ghost use Rattle.std.specs.Prelude.{◌≡◌, OnOk, OnErr};
-ghost use Rattle.marshal.specs.Values.{PutsValue};
-ghost use Rattle.marshal.specs.Spellings.{Extends};
+ghost use Rattle.marshal.specs.Spellings.{Puts, Extends};
+ghost use Rattle.marshal.specs.Values.{SpellsValue};
 
+use crate::numbers::put_u32;
 use crate::tags::{ADDRESS, INT, NULL, VOID};
 use ccpp_edge::Bytes;
 use global_ptr::{Addr, Value};
@@ -9,7 +10,7 @@ use std::alloc::AllocError;
 
 /// Puts the bytes of a value at the end. Want of memory leaves `out` as it was.
 pub fn put_value(out: &mut Bytes, value: Value) -> Result<(), AllocError>
-    ensures ok { OnOk result (PutsValue out.old out.new value) }
+    ensures ok { OnOk result (Puts (SpellsValue value) out.old out.new) }
     ensures err { OnErr result (out.new ≡ out.old) }
 {
     let len = out.len();
@@ -22,7 +23,7 @@ pub fn put_value(out: &mut Bytes, value: Value) -> Result<(), AllocError>
 
 // Want of memory may leave a part of the bytes at the end.
 fn append_value(out: &mut Bytes, value: Value) -> Result<(), AllocError>
-    ensures ok { OnOk result (PutsValue out.old out.new value) }
+    ensures ok { OnOk result (Puts (SpellsValue value) out.old out.new) }
     ensures err { OnErr result (Extends out.old out.new) }
 {
     match value {
@@ -39,9 +40,9 @@ fn append_value(out: &mut Bytes, value: Value) -> Result<(), AllocError>
                 offset,
             } = address;
             out.push(ADDRESS)?;
-            out.extend_from_slice(&processor.to_be_bytes())?;
-            out.extend_from_slice(&object.to_be_bytes())?;
-            out.extend_from_slice(&offset.to_be_bytes())
+            put_u32(out, processor)?;
+            put_u32(out, object)?;
+            put_u32(out, offset)
         }
     }
 }
