@@ -1,0 +1,5 @@
+pub mod Classes
+pub mod OneKind
+pub mod Insides
+pub mod Moves
+pub mod Outcomes

@@ -1,0 +1,265 @@
+-- At each place a text has one thing next: a blank, a token, a fault or its end.
+use Rattle.std.proofs.Common.{◌≡◌, ◌≢◌, ℕ, zero, suc, ◌+◌, ◌-◌, ◌<◌, ◌≤◌, Bool, true, false, ◌||◌, ◌&&◌, not, ◌==◌, cond, eqb, List, [], ◌∷◌, ◌++◌, length, take, drop, ℤ, pos, ◌≤ℤ◌, ◌<ℤ◌, ◌⊎◌, inl, inr, refl, ap, sym, ◌∙◌, arith, length-append, length-take, length-drop, take-append-drop}
+use Rattle.std.proofs.lemmas.Bool.{and_parts, eqb-true, or_parts, cases_Bool}
+use Rattle.std.proofs.lemmas.Bool.Decides.{nat_tests}
+use Rattle.std.proofs.lemmas.Int.{ints}
+use Rattle.std.proofs.lemmas.List.{append_assoc, length-take-le}
+use Rattle.std.specs.Prelude.{codes, IsTrue}
+use Rattle.cc_lexer.specs.declared.token.TokenKind.{TokenKind}
+use Rattle.cc_lexer.specs.declared.token.TokenKind.TheVariants.{Name, Int, Str, Word, Mark as Marked}
+use Rattle.cc_lexer.specs.declared.fault.LexFault.{LexFault}
+use Rattle.cc_lexer.specs.declared.fault.LexFault.TheVariants.{BadByte, OpenComment, OpenString, LongName, NumberTooLarge}
+use Rattle.cc_lexer.specs.Spelling.{Text, is_inside, is_plain, is_letter, is_digit, Spells}
+use Rattle.cc_lexer.specs.Cut.{Begins, is_blank, is_line_feed, line_length, is_indent, IsFirstPlace, IsBlank, byte, line_comment, comment, include_line, Stands, IsLongest, NoneStands, IsWithinLimits}
+use Rattle.cc_lexer.specs.Faults.{goes_on, is_line_end, BreaksOff, IsFaultAt, open_comment, open_string, long_name, large_number, bad_inside, bad_byte}
+use Rattle.cc_lexer.proofs.Classes.{is_mark_byte, Class, Ends, Blank, LineComment, Comment, Hash, Quote, Letter, Digit, MarkByte, Other, byte_class, class_at, class_of, spelled_class}
+use Rattle.cc_lexer.proofs.OneKind.{one_kind}
+use Rattle.cc_lexer.proofs.Insides.{continues, inside_once, continues_no_more}
+
+-- what a text has next
+pub data Move : Type 0 where
+  ends : Move
+  skips : ℕ → Move
+  takes : TokenKind → ℕ → Move
+  fails : LexFault → Move
+
+-- ---- the class of a text
+
+unslashed : (b : ℕ) (rest : Text) → (b == 47) ≡ false → class_at (b ∷ rest) ≡ byte_class b
+unslashed b [] h = refl
+unslashed b (c ∷ bs) h = rw h refl
+
+blank_slash : (b : ℕ) → is_blank b ≡ true → (b == 47) ≡ false
+blank_slash b h = grind (arith, nat_tests)
+
+blank_class : (b : ℕ) (rest : Text) → is_blank b ≡ true → class_at (b ∷ rest) ≡ Blank
+blank_class b rest h = unslashed b rest (blank_slash b h) ∙ rw h refl
+
+no_class : (kind : TokenKind) → Ends ≡ class_of kind → ⊥
+no_class Name h = cc
+no_class _ h = cc
+
+uncommented : (b c : ℕ) (bs : Text) → (Begins (b ∷ c ∷ bs) (codes "//") → ⊥) → (Begins (b ∷ c ∷ bs) (codes "/*") → ⊥) → class_at (b ∷ c ∷ bs) ≡ byte_class b
+uncommented b c bs h i = go (b == 47 && c == 47) refl (b == 47 && c == 42) refl
+  where
+    two : (n : ℕ) → (b == 47 && c == n) ≡ true → Begins (b ∷ c ∷ bs) (47 ∷ n ∷ [])
+    two n e = let w = and_parts (b == 47) (c == n) e in (bs, let p = eqb-true b 47 w.0 in let q = eqb-true c n w.1 in cc)
+    go : (x : Bool) → (b == 47 && c == 47) ≡ x → (y : Bool) → (b == 47 && c == 42) ≡ y → class_at (b ∷ c ∷ bs) ≡ byte_class b
+    go true e y f = absurd (h (two 47 e))
+    go false e true f = absurd (i (two 42 f))
+    go false e false f = rw (e, f) refl
+
+pub stands_class : (here : Text) (kind : TokenKind) (n : ℕ) → Stands here kind n → class_at here ≡ class_of kind
+stands_class [] kind zero h = absurd (no_class kind (spelled_class kind [] h.spelled))
+stands_class [] kind (suc n) h = absurd (no_class kind (spelled_class kind [] h.spelled))
+stands_class (b ∷ bs) kind zero h = absurd (no_class kind (spelled_class kind [] h.spelled))
+stands_class (b ∷ []) kind (suc n) h = spelled_class kind (b ∷ take n []) h.spelled
+stands_class (b ∷ c ∷ bs) kind (suc n) h = uncommented b c bs h.no_line_comment h.no_comment ∙ spelled_class kind (b ∷ take n (c ∷ bs)) h.spelled
+
+-- ---- what each class settles
+
+-- what is next where a string has this many bytes within, and then this rest
+abbrev pub after_inside : ℕ → ℕ → Text → Move
+after_inside at n [] = fails (OpenString at)
+after_inside at n (b ∷ bs) = cond (b == 34) (takes Str (n + 2)) (cond (is_line_feed b) (fails (OpenString at)) (fails (BadByte (at + 1 + n))))
+
+-- what is next where this is the longest token
+abbrev pub Judged : ℕ → TokenKind → ℕ → Move → Type 0
+Judged at Name n m = ((n ≤ 255) × (m ≡ takes Name n)) ⊎ ((255 < n) × (m ≡ fails (LongName at)))
+Judged at (Int v) n m = ((v ≤ℤ pos 9223372036854775807) × (m ≡ takes (Int v) n)) ⊎ ((pos 9223372036854775807 <ℤ v) × (m ≡ fails (NumberTooLarge at)))
+Judged at kind n m = m ≡ takes kind n
+
+module _ (before here : Text) (at : ℕ) where
+  abbrev pub IsIncludeLine : Type 0
+  IsIncludeLine = Begins here (codes "#include") × IsTrue (is_indent before)
+
+  abbrev pub Closes : Move → Type 0
+  Closes m = ((n : ℕ) × IsFirstPlace (codes "*/") (drop 2 here) n × (m ≡ skips (n + 4))) ⊎ (((k : ℕ) → Begins (drop k (drop 2 here)) (codes "*/") → ⊥) × (m ≡ fails (OpenComment at)))
+
+  abbrev pub Includes : Move → Type 0
+  Includes m = (IsIncludeLine × (m ≡ skips (line_length here))) ⊎ ((IsIncludeLine → ⊥) × (m ≡ fails (BadByte at)))
+
+  pub record Quoted (m : Move) : Type 0 where
+    pub inside : Text
+    pub rest : Text
+    pub parts : here ≡ codes "\"" ++ inside ++ rest
+    pub sound : is_inside inside ≡ true
+    pub halts : continues rest ≡ false
+    pub move : m ≡ after_inside at (length inside) rest
+
+  pub record Takes (m : Move) : Type 0 where
+    pub kind : TokenKind
+    pub size : ℕ
+    pub longest : IsLongest here kind size
+    pub judged : Judged at kind size m
+
+  abbrev pub Settled : Class → Move → Type 0
+  Settled Ends m = m ≡ ends
+  Settled Blank m = m ≡ skips 1
+  Settled LineComment m = m ≡ skips (line_length here)
+  Settled Comment m = Closes m
+  Settled Hash m = Includes m
+  Settled Quote m = Quoted m
+  Settled _ m = Takes m ⊎ (NoneStands here × (m ≡ fails (BadByte at)))
+
+  -- ---- each class settles one move
+
+  closes_once : (m n : Move) → Closes m → Closes n → m ≡ n
+  closes_once m n (inl h) (inl i) = let e : h.0 ≡ i.0 = omega (arith, h.1.first i.0 i.1.found, i.1.first h.0 h.1.found) in cc
+  closes_once m n (inl h) (inr i) = absurd (i.0 h.0 h.1.found)
+  closes_once m n (inr h) (inl i) = absurd (h.0 i.0 i.1.found)
+  closes_once m n (inr h) (inr i) = cc
+
+  includes_once : (m n : Move) → Includes m → Includes n → m ≡ n
+  includes_once m n (inl h) (inl i) = cc
+  includes_once m n (inl h) (inr i) = absurd (i.0 h.0)
+  includes_once m n (inr h) (inl i) = absurd (h.0 i.0)
+  includes_once m n (inr h) (inr i) = cc
+
+  quoted_once : (m n : Move) → Quoted m → Quoted n → m ≡ n
+  quoted_once m n h i =
+      let e : 34 ∷ (h.inside ++ h.rest) ≡ 34 ∷ (i.inside ++ i.rest) = sym h.parts ∙ i.parts in
+      let w = inside_once h.inside i.inside h.rest i.rest h.sound i.sound h.halts i.halts cc in
+      cc (h.move, i.move, w.0, w.1)
+
+  judged_once : (kind : TokenKind) (k : ℕ) (m n : Move) → Judged at kind k m → Judged at kind k n → m ≡ n
+  judged_once Name k m n (inl h) (inl i) = cc
+  judged_once Name k m n (inl h) (inr i) = absurd (omega (arith, h.0, i.0))
+  judged_once Name k m n (inr h) (inl i) = absurd (omega (arith, h.0, i.0))
+  judged_once Name k m n (inr h) (inr i) = cc
+  judged_once (Int v) k m n (inl h) (inl i) = cc
+  judged_once (Int v) k m n (inl h) (inr i) = absurd (omega (arith, ints, h.0, i.0))
+  judged_once (Int v) k m n (inr h) (inl i) = absurd (omega (arith, ints, h.0, i.0))
+  judged_once (Int v) k m n (inr h) (inr i) = cc
+  judged_once Str k m n h i = cc
+  judged_once (Word w) k m n h i = cc
+  judged_once (Marked w) k m n h i = cc
+
+  takes_once : (m n : Move) → Takes m → Takes n → m ≡ n
+  takes_once m n h i =
+      let k : i.size ≡ h.size = omega (arith, h.longest.longest i.kind i.size i.longest.stands, i.longest.longest h.kind h.size h.longest.stands) in
+      let s = i.longest.stands.spelled in
+      let t : Spells i.kind (take h.size here) = rw k at s in
+      let e : i.kind ≡ h.kind = one_kind i.kind h.kind (take h.size here) t h.longest.stands.spelled in
+      let j = i.judged in
+      judged_once h.kind h.size m n h.judged (rw (k, e) at j)
+
+  token_once : (m n : Move) → Takes m ⊎ (NoneStands here × (m ≡ fails (BadByte at))) → Takes n ⊎ (NoneStands here × (n ≡ fails (BadByte at))) → m ≡ n
+  token_once m n (inl h) (inl i) = takes_once m n h i
+  token_once m n (inl h) (inr i) = absurd (i.0 h.kind h.size h.longest.stands)
+  token_once m n (inr h) (inl i) = absurd (h.0 i.kind i.size i.longest.stands)
+  token_once m n (inr h) (inr i) = cc
+
+  pub settled_once : (c : Class) (m n : Move) → Settled c m → Settled c n → m ≡ n
+  settled_once Ends m n h i = cc
+  settled_once Blank m n h i = cc
+  settled_once LineComment m n h i = cc
+  settled_once Comment m n h i = closes_once m n h i
+  settled_once Hash m n h i = includes_once m n h i
+  settled_once Quote m n h i = quoted_once m n h i
+  settled_once Letter m n h i = token_once m n h i
+  settled_once Digit m n h i = token_once m n h i
+  settled_once MarkByte m n h i = token_once m n h i
+  settled_once Other m n h i = token_once m n h i
+
+-- ---- a blank, a token and a fault are what is settled
+
+pub blank_settled : (before here : Text) (at n : ℕ) → IsBlank before here n → Settled before here at (class_at here) (skips n)
+blank_settled before here at _ (byte {b} {rest} e h) = rw (ap class_at e ∙ blank_class b rest h) refl
+blank_settled before here at _ (line_comment h) = rw (ap class_at h.1) refl
+blank_settled before here at _ (comment {n} h i) = rw (ap class_at h.1) (inl (n, i, refl))
+blank_settled before here at _ (include_line h i) = rw (ap class_at h.1) (inl ((h, i), refl))
+
+taken : (before here : Text) (at : ℕ) (kind : TokenKind) (n : ℕ) (m : Move) → kind ≢ Str → IsLongest here kind n → Judged at kind n m → Settled before here at (class_at here) m
+taken before here at kind n m not_string h j = rw (stands_class here kind n h.stands) (go kind not_string (inl (record { kind = kind; size = n; longest = h; judged = j })))
+  where
+    go : (k : TokenKind) → k ≢ Str → Takes before here at m ⊎ (NoneStands here × (m ≡ fails (BadByte at))) → Settled before here at (class_of k) m
+    go Str apart t = absurd (apart refl)
+    go Name apart t = t
+    go (Int v) apart t = t
+    go (Word w) apart t = t
+    go (Marked x) apart t = t
+
+string_length : (inside : Text) → length (codes "\"" ++ inside ++ codes "\"") ≡ length inside + 2
+string_length inside = omega (arith, length-append (codes "\"" ++ inside) (codes "\""), length-append (codes "\"") inside)
+
+quoted : (before here : Text) (at n : ℕ) → Stands here Str n → Settled before here at (class_at here) (takes Str n)
+quoted before here at n h =
+    let s = h.spelled in
+    let inside = s.0 in
+    let rest = codes "\"" ++ drop n here in
+    let e : n ≡ length inside + 2 = omega (arith, ap length s.2, string_length inside, length-take-le n here h.within) in
+    let p : here ≡ codes "\"" ++ inside ++ rest = sym (take-append-drop n here) ∙ ap (λ t. t ++ drop n here) s.2 ∙ append_assoc (codes "\"" ++ inside) (codes "\"") (drop n here) in
+    rw (stands_class here Str n h) (record { inside = inside; rest = rest; parts = p; sound = s.1; halts = quote_halts (drop n here); move = ap (takes Str) e })
+  where
+    quote_halts : (bs : Text) → continues (codes "\"" ++ bs) ≡ false
+    quote_halts [] = refl
+    quote_halts (b ∷ bs) = refl
+
+pub token_settled : (before here : Text) (at n : ℕ) (kind : TokenKind) → IsLongest here kind n → IsWithinLimits kind n → Settled before here at (class_at here) (takes kind n)
+token_settled before here at n Name h i = taken before here at Name n _ (λ e. cc) h (inl (i, refl))
+token_settled before here at n (Int v) h i = taken before here at (Int v) n _ (λ e. cc) h (inl (i, refl))
+token_settled before here at n Str h i = quoted before here at n h.stands
+token_settled before here at n (Word w) h i = taken before here at (Word w) n _ (λ e. cc) h refl
+token_settled before here at n (Marked m) h i = taken before here at (Marked m) n _ (λ e. cc) h refl
+
+broken : (before here inside rest : Text) (at : ℕ) (m : Move) → BreaksOff here inside rest → m ≡ after_inside at (length inside) rest → Settled before here at (class_at here) m
+broken before here inside rest at m h e =
+    rw (ap class_at h.parts ∙ unslashed 34 (inside ++ rest) refl) (record { inside = inside; rest = rest; parts = h.parts; sound = h.sound; halts = continues_no_more rest h.stops; move = e })
+
+no_quote : (b : ℕ) (rest : Text) → goes_on (b ∷ rest) ≡ false → (b == 34) ≡ false
+no_quote b [] h = (or_parts (is_plain b) (b == 34) h).1
+no_quote b (c ∷ bs) h = (or_parts (is_plain b) (b == 34) (or_parts (is_plain b || b == 34) _ h).0).1
+
+at_line_end : (at n : ℕ) (rest : Text) → goes_on rest ≡ false → is_line_end rest ≡ true → fails (OpenString at) ≡ after_inside at n rest
+at_line_end at n [] h i = refl
+at_line_end at n (b ∷ bs) h i = rw (no_quote b bs h, i) refl
+
+at_bad_byte : (at n : ℕ) (rest : Text) → goes_on rest ≡ false → is_line_end rest ≡ false → fails (BadByte (at + 1 + n)) ≡ after_inside at n rest
+at_bad_byte at n [] h i = cc
+at_bad_byte at n (b ∷ bs) h i = rw (no_quote b bs h, i) refl
+
+-- what is known where a byte begins neither a blank, a comment, a string nor a token
+module _ (before here : Text) (at : ℕ) (some : 0 < length here) (no_blank : (n : ℕ) → IsBlank before here n → ⊥) (no_token : NoneStands here) (no_comment : Begins here (codes "/*") → ⊥) (no_string : Begins here (codes "\"") → ⊥) where
+  abbrev BadMove : Class → Type 0
+  BadMove c = Settled before here at c (fails (BadByte at))
+
+  by_byte : (b : ℕ) (rest : Text) → here ≡ b ∷ rest → BadMove (byte_class b)
+  by_byte b rest e = go (is_blank b) refl (b == 35) refl (b == 34) refl
+    where
+      others : BadMove (cond (is_letter b) Letter (cond (is_digit b) Digit (cond (is_mark_byte b) MarkByte Other)))
+      others = by_letter (is_letter b) (is_digit b) (is_mark_byte b)
+        where
+          by_letter : (x y z : Bool) → BadMove (cond x Letter (cond y Digit (cond z MarkByte Other)))
+          by_letter true y z = inr (no_token, refl)
+          by_letter false true z = inr (no_token, refl)
+          by_letter false false true = inr (no_token, refl)
+          by_letter false false false = inr (no_token, refl)
+      go : (x : Bool) → is_blank b ≡ x → (y : Bool) → (b == 35) ≡ y → (z : Bool) → (b == 34) ≡ z → BadMove (cond x Blank (cond y Hash (cond z Quote (cond (is_letter b) Letter (cond (is_digit b) Digit (cond (is_mark_byte b) MarkByte Other))))))
+      go true f y g z k = absurd (no_blank 1 (byte e f))
+      go false f true g z k = inr ((λ w. no_blank _ (include_line w.0 w.1)), refl)
+      go false f false g true k = absurd (no_string (rest, e ∙ ap (λ c. c ∷ rest) (eqb-true b 34 k)))
+      go false f false g false k = others
+
+  by_bytes : (t : Text) → here ≡ t → BadMove (class_at t)
+  by_bytes [] e = absurd (omega (arith, ap length e))
+  by_bytes (b ∷ []) e = by_byte b [] e
+  by_bytes (b ∷ c ∷ bs) e = go (b == 47 && c == 47) refl (b == 47 && c == 42) refl
+    where
+      two : (n : ℕ) → (b == 47 && c == n) ≡ true → Begins here (47 ∷ n ∷ [])
+      two n f = let w = and_parts (b == 47) (c == n) f in (bs, let p = eqb-true b 47 w.0 in let q = eqb-true c n w.1 in cc)
+      go : (x : Bool) → (b == 47 && c == 47) ≡ x → (y : Bool) → (b == 47 && c == 42) ≡ y → BadMove (cond x LineComment (cond y Comment (byte_class b)))
+      go true f y g = absurd (no_blank _ (line_comment (two 47 f)))
+      go false f true g = absurd (no_comment (two 42 g))
+      go false f false g = by_byte b (c ∷ bs) e
+
+  pub bad_settled : BadMove (class_at here)
+  bad_settled = by_bytes here refl
+
+pub fault_settled : (text : Text) (at : ℕ) (fault : LexFault) → IsFaultAt text at fault → Settled (take at text) (drop at text) at (class_at (drop at text)) (fails fault)
+fault_settled text at _ (open_comment h i) = rw (ap class_at h.1) (inr (i, refl))
+fault_settled text at _ (open_string {inside} {rest} h i) = broken (take at text) (drop at text) inside rest at _ h (at_line_end at (length inside) rest h.stops i)
+fault_settled text at _ (long_name {n} h i) = taken (take at text) (drop at text) at Name n _ (λ e. cc) h (inr (i, refl))
+fault_settled text at _ (large_number {value} {n} h i) = taken (take at text) (drop at text) at (Int value) n _ (λ e. cc) h (inr (i, refl))
+fault_settled text at _ (bad_inside {inside} {rest} h i) = broken (take at text) (drop at text) inside rest at _ h (at_bad_byte at (length inside) rest h.stops i)
+fault_settled text at _ (bad_byte h i j k l) = bad_settled (take at text) (drop at text) at (omega (arith, length-drop at text)) i j k l
