@@ -11,37 +11,17 @@ use Rattle.cc_lexer.specs.declared.token.Mark.TheVariants as mark
 use Rattle.cc_lexer.specs.declared.token.TokenKind.{TokenKind}
 use Rattle.cc_lexer.specs.declared.token.TokenKind.TheVariants.{Name, Int, Str, Word, Mark as Marked}
 use Rattle.cc_lexer.specs.Spelling.{Text, is_digit, is_letter, is_word, is_number, is_inside, keyword_text, mark_text, Spells, IsName, IsString}
+use Rattle.cc_lexer.specs.declared.class.Class.{Class}
+use Rattle.cc_lexer.specs.declared.class.Class.TheVariants as class
 use Rattle.cc_lexer.specs.Cut.{Begins, is_blank, Stands}
-
-pub data Class : Type 0 where
-  Ends : Class
-  Blank : Class
-  LineComment : Class
-  Comment : Class
-  Hash : Class
-  Quote : Class
-  Letter : Class
-  Digit : Class
-  MarkByte : Class
-  Other : Class
-
-abbrev pub is_mark_byte : ℕ → Bool
-is_mark_byte b = list_any (eqb b) (codes "(){}[];,:.=+-*/%<>!&|")
-
-abbrev pub byte_class : ℕ → Class
-byte_class b = cond (is_blank b) Blank (cond (b == 35) Hash (cond (b == 34) Quote (cond (is_letter b) Letter (cond (is_digit b) Digit (cond (is_mark_byte b) MarkByte Other)))))
-
-abbrev pub class_at : Text → Class
-class_at [] = Ends
-class_at (b ∷ []) = byte_class b
-class_at (b ∷ c ∷ bs) = cond (b == 47 && c == 47) LineComment (cond (b == 47 && c == 42) Comment (byte_class b))
+use Rattle.cc_lexer.specs.Next.{byte_class, class_at}
 
 abbrev pub class_of : TokenKind → Class
-class_of Name = Letter
-class_of (Int value) = Digit
-class_of Str = Quote
-class_of (Word word) = Letter
-class_of (Marked mark) = MarkByte
+class_of Name = class.Letter
+class_of (Int value) = class.Digit
+class_of Str = class.Quote
+class_of (Word word) = class.Letter
+class_of (Marked mark) = class.Other
 
 letter_blank : (b : ℕ) → is_letter b ≡ true → is_blank b ≡ false
 letter_blank b h = grind (arith, nat_tests)
@@ -52,7 +32,7 @@ letter_hash b h = grind (arith, nat_tests)
 letter_quote : (b : ℕ) → is_letter b ≡ true → (b == 34) ≡ false
 letter_quote b h = grind (arith, nat_tests)
 
-pub letter_class : (b : ℕ) → is_letter b ≡ true → byte_class b ≡ Letter
+pub letter_class : (b : ℕ) → is_letter b ≡ true → byte_class b ≡ class.Letter
 letter_class b h = rw (letter_blank b h, letter_hash b h, letter_quote b h, h) refl
 
 digit_blank : (b : ℕ) → is_digit b ≡ true → is_blank b ≡ false
@@ -67,28 +47,28 @@ digit_quote b h = grind (arith, nat_tests)
 digit_letter : (b : ℕ) → is_digit b ≡ true → is_letter b ≡ false
 digit_letter b h = grind (arith, nat_tests)
 
-pub digit_class : (b : ℕ) → is_digit b ≡ true → byte_class b ≡ Digit
+pub digit_class : (b : ℕ) → is_digit b ≡ true → byte_class b ≡ class.Digit
 digit_class b h = rw (digit_blank b h, digit_hash b h, digit_quote b h, digit_letter b h, h) refl
 
 -- ---- the first byte of a token
 
 abbrev pub first_class : Text → Class
-first_class [] = Ends
+first_class [] = class.End
 first_class (b ∷ bs) = byte_class b
 
 keyword_word : (word : Keyword) → is_word (keyword_text word) ≡ true
 keyword_word keyword.Atomic = refl
 keyword_word _ = refl
 
-mark_class : (mark : Mark) → first_class (mark_text mark) ≡ MarkByte
+mark_class : (mark : Mark) → first_class (mark_text mark) ≡ class.Other
 mark_class mark.OpenParen = refl
 mark_class _ = refl
 
-pub word_class : (text : Text) → is_word text ≡ true → first_class text ≡ Letter
+pub word_class : (text : Text) → is_word text ≡ true → first_class text ≡ class.Letter
 word_class [] h = cc
 word_class (b ∷ bs) h = letter_class b (and_parts (is_letter b) _ h).0
 
-pub number_class : (text : Text) → is_number text ≡ true → first_class text ≡ Digit
+pub number_class : (text : Text) → is_number text ≡ true → first_class text ≡ class.Digit
 number_class [] h = cc
 number_class (b ∷ []) h = digit_class b h
 number_class (b ∷ c ∷ bs) h = digit_class b (and_parts (is_digit b) _ (and_parts (not (b == 48)) _ h).1).0

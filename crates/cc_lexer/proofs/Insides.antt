@@ -1,16 +1,13 @@
 -- How far the inside of a string goes is settled by the bytes.
-use Rattle.std.proofs.Common.{◌≡◌, ℕ, suc, ◌+◌, Bool, true, false, ◌||◌, ◌&&◌, not, ◌==◌, cond, List, [], ◌∷◌, ◌++◌, length, drop, refl, ap, sym, ◌∙◌, arith}
+use Rattle.std.proofs.Common.{◌≡◌, ◌≤◌, ℕ, suc, ◌+◌, take, Bool, true, false, ◌||◌, ◌&&◌, not, ◌==◌, cond, List, [], ◌∷◌, ◌++◌, length, drop, refl, ap, sym, ◌∙◌, arith}
 use Rattle.std.proofs.lemmas.Bool.{and_parts, or_parts, cases_Bool, not-true}
 use Rattle.std.proofs.lemmas.List.{drop_at}
 use Rattle.cc_lexer.specs.Spelling.{Text, is_plain, is_escape, is_inside}
 use Rattle.cc_lexer.specs.Faults.{goes_on}
+use Rattle.cc_lexer.specs.String.{unit_length}
+use Rattle.std.proofs.Math.Seq.{take-add}
 
--- the text begins with a plain byte or an escape
-abbrev pub continues : Text → Bool
-continues [] = false
-continues (b ∷ []) = is_plain b
-continues (b ∷ c ∷ bs) = cond (b == 92) (is_escape c) (is_plain b)
-
+-- how many bytes at the front are plain bytes and escapes
 abbrev pub inside_len : Text → ℕ
 inside_len [] = 0
 inside_len (b ∷ []) = cond (is_plain b) 1 0
@@ -19,7 +16,7 @@ inside_len (b ∷ c ∷ bs) = cond (b == 92) (cond (is_escape c) (suc (suc (insi
 plain_no_backslash : (b : ℕ) → is_plain b ≡ true → (b == 92) ≡ false
 plain_no_backslash b h = not-true (b == 92) (and_parts _ (not (b == 92)) h).1
 
-halted : (rest : Text) → continues rest ≡ false → inside_len rest ≡ 0
+halted : (rest : Text) → goes_on rest ≡ false → inside_len rest ≡ 0
 halted [] h = refl
 halted (b ∷ []) h = rw h refl
 halted (b ∷ c ∷ bs) h = go (b == 92) refl h
@@ -32,7 +29,7 @@ after_plain : (b : ℕ) (rest : Text) → is_plain b ≡ true → inside_len (b 
 after_plain b [] h = rw h refl
 after_plain b (c ∷ bs) h = rw (h, plain_no_backslash b h) refl
 
-pub inside_len-append : (inside rest : Text) → is_inside inside ≡ true → continues rest ≡ false → inside_len (inside ++ rest) ≡ length inside
+pub inside_len-append : (inside rest : Text) → is_inside inside ≡ true → goes_on rest ≡ false → inside_len (inside ++ rest) ≡ length inside
 inside_len-append [] rest h i = halted rest i
 inside_len-append (b ∷ []) rest h i = after_plain b rest h ∙ ap suc (halted rest i)
 inside_len-append (b ∷ c ∷ bs) rest h i = go (b == 92) refl h (λ k. inside_len-append bs rest k i) (λ k. inside_len-append (c ∷ bs) rest k i)
@@ -45,7 +42,7 @@ inside_len-append (b ∷ c ∷ bs) rest h i = go (b == 92) refl h (λ k. inside_
     go false e f k l = let w = and_parts (is_plain b) (is_inside (c ∷ bs)) f in rw (w.0, e) (ap suc (l w.1))
 
 -- the inside of a string and what follows it
-pub inside_once : (i j r s : Text) → is_inside i ≡ true → is_inside j ≡ true → continues r ≡ false → continues s ≡ false → i ++ r ≡ j ++ s → (length i ≡ length j) × (r ≡ s)
+pub inside_once : (i j r s : Text) → is_inside i ≡ true → is_inside j ≡ true → goes_on r ≡ false → goes_on s ≡ false → i ++ r ≡ j ++ s → (length i ≡ length j) × (r ≡ s)
 inside_once i j r s h k p q e =
     let a = inside_len-append i r h p in
     let b = inside_len-append j s k q in
@@ -54,13 +51,35 @@ inside_once i j r s h k p q e =
     let m = drop_at j s (length i) (sym n) in
     (n, sym l ∙ ap (drop (length i)) e ∙ m)
 
-pub continues_no_more : (rest : Text) → goes_on rest ≡ false → continues rest ≡ false
-continues_no_more [] h = refl
-continues_no_more (b ∷ []) h = (or_parts (is_plain b) (b == 34) h).0
-continues_no_more (b ∷ c ∷ bs) h =
-    let w = or_parts (is_plain b || b == 34) (b == 92 && is_escape c) h in
-    go (b == 92) refl w.1 (or_parts (is_plain b) (b == 34) w.0).0
+-- ---- one byte or escape after another
+
+unit_inside : (t : Text) → is_inside (take (unit_length t) t) ≡ true
+unit_inside [] = refl
+unit_inside (b ∷ []) = go (is_plain b) refl
   where
-    go : (x : Bool) → (b == 92) ≡ x → (x && is_escape c) ≡ false → is_plain b ≡ false → cond x (is_escape c) (is_plain b) ≡ false
-    go true e f g = f
-    go false e f g = g
+    go : (x : Bool) → is_plain b ≡ x → is_inside (take (cond x 1 0) (b ∷ [])) ≡ true
+    go true e = e
+    go false e = refl
+unit_inside (b ∷ c ∷ bs) = go (b == 92) refl (is_escape c) refl (is_plain b) refl
+  where
+    go : (x : Bool) → (b == 92) ≡ x → (y : Bool) → is_escape c ≡ y → (z : Bool) → is_plain b ≡ z → is_inside (take (cond x (cond y 2 0) (cond z 1 0)) (b ∷ c ∷ bs)) ≡ true
+    go true e true f z g = rw (e, f) refl
+    go true e false f z g = refl
+    go false e y f true g = g
+    go false e y f false g = refl
+
+is_inside-append : (a b : Text) → is_inside a ≡ true → is_inside b ≡ true → is_inside (a ++ b) ≡ true
+is_inside-append [] b h i = i
+is_inside-append (x ∷ []) [] h i = h
+is_inside-append (x ∷ []) (y ∷ b) h i = rw (h, plain_no_backslash x h) i
+is_inside-append (x ∷ y ∷ a) b h i = go (x == 92) refl h (λ k. is_inside-append a b k i) (λ k. is_inside-append (y ∷ a) b k i)
+  where
+    go : (z : Bool) → (x == 92) ≡ z → cond z (is_escape y && is_inside a) (is_plain x && is_inside (y ∷ a)) ≡ true
+       → (is_inside a ≡ true → is_inside (a ++ b) ≡ true)
+       → (is_inside (y ∷ a) ≡ true → is_inside (y ∷ (a ++ b)) ≡ true)
+       → is_inside (x ∷ y ∷ (a ++ b)) ≡ true
+    go true e f k l = let w = and_parts (is_escape y) (is_inside a) f in rw (e, w.0) (k w.1)
+    go false e f k l = let w = and_parts (is_plain x) (is_inside (y ∷ a)) f in rw (w.0, e) (l w.1)
+
+pub inside_more : (here : Text) (n : ℕ) → is_inside (take n here) ≡ true → is_inside (take (n + unit_length (drop n here)) here) ≡ true
+inside_more here n h = rw (take-add n (unit_length (drop n here)) here) (is_inside-append (take n here) (take (unit_length (drop n here)) (drop n here)) h (unit_inside (drop n here)))

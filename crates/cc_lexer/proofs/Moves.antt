@@ -1,6 +1,6 @@
 -- At each place a text has one thing next: a blank, a token, a fault or its end.
 use Rattle.std.proofs.Common.{◌≡◌, ◌≢◌, ℕ, zero, suc, ◌+◌, ◌-◌, ◌<◌, ◌≤◌, Bool, true, false, ◌||◌, ◌&&◌, not, ◌==◌, cond, eqb, List, [], ◌∷◌, ◌++◌, length, take, drop, ℤ, pos, ◌≤ℤ◌, ◌<ℤ◌, ◌⊎◌, inl, inr, refl, ap, sym, ◌∙◌, arith, length-append, length-take, length-drop, take-append-drop}
-use Rattle.std.proofs.lemmas.Bool.{and_parts, eqb-true, or_parts, cases_Bool}
+use Rattle.std.proofs.lemmas.Bool.{and_parts, eqb-true, false_from_ne_true}
 use Rattle.std.proofs.lemmas.Bool.Decides.{nat_tests}
 use Rattle.std.proofs.lemmas.Int.{ints}
 use Rattle.std.proofs.lemmas.List.{append_assoc, length-take-le}
@@ -10,11 +10,14 @@ use Rattle.cc_lexer.specs.declared.token.TokenKind.TheVariants.{Name, Int, Str, 
 use Rattle.cc_lexer.specs.declared.fault.LexFault.{LexFault}
 use Rattle.cc_lexer.specs.declared.fault.LexFault.TheVariants.{BadByte, OpenComment, OpenString, LongName, NumberTooLarge}
 use Rattle.cc_lexer.specs.Spelling.{Text, is_inside, is_plain, is_letter, is_digit, Spells}
-use Rattle.cc_lexer.specs.Cut.{Begins, is_blank, is_line_feed, line_length, is_indent, IsFirstPlace, IsBlank, byte, line_comment, comment, include_line, Stands, IsLongest, NoneStands, IsWithinLimits}
+use Rattle.cc_lexer.specs.Cut.{Begins, HasNoPlace, is_blank, is_line_feed, line_length, is_indent, IsFirstPlace, IsBlank, byte, line_comment, comment, include_line, Stands, IsLongest, NoneStands, IsWithinLimits}
 use Rattle.cc_lexer.specs.Faults.{goes_on, is_line_end, BreaksOff, IsFaultAt, open_comment, open_string, long_name, large_number, bad_inside, bad_byte}
-use Rattle.cc_lexer.proofs.Classes.{is_mark_byte, Class, Ends, Blank, LineComment, Comment, Hash, Quote, Letter, Digit, MarkByte, Other, byte_class, class_at, class_of, spelled_class}
+use Rattle.cc_lexer.specs.declared.class.Class.{Class}
+use Rattle.cc_lexer.specs.declared.class.Class.TheVariants as class
+use Rattle.cc_lexer.specs.Next.{byte_class, class_at}
+use Rattle.cc_lexer.proofs.Classes.{class_of, spelled_class}
 use Rattle.cc_lexer.proofs.OneKind.{one_kind}
-use Rattle.cc_lexer.proofs.Insides.{continues, inside_once, continues_no_more}
+use Rattle.cc_lexer.proofs.Insides.{inside_once}
 
 -- what a text has next
 pub data Move : Type 0 where
@@ -32,10 +35,10 @@ unslashed b (c ∷ bs) h = rw h refl
 blank_slash : (b : ℕ) → is_blank b ≡ true → (b == 47) ≡ false
 blank_slash b h = grind (arith, nat_tests)
 
-blank_class : (b : ℕ) (rest : Text) → is_blank b ≡ true → class_at (b ∷ rest) ≡ Blank
+blank_class : (b : ℕ) (rest : Text) → is_blank b ≡ true → class_at (b ∷ rest) ≡ class.Blank
 blank_class b rest h = unslashed b rest (blank_slash b h) ∙ rw h refl
 
-no_class : (kind : TokenKind) → Ends ≡ class_of kind → ⊥
+no_class : (kind : TokenKind) → class.End ≡ class_of kind → ⊥
 no_class Name h = cc
 no_class _ h = cc
 
@@ -74,7 +77,7 @@ module _ (before here : Text) (at : ℕ) where
   IsIncludeLine = Begins here (codes "#include") × IsTrue (is_indent before)
 
   abbrev pub Closes : Move → Type 0
-  Closes m = ((n : ℕ) × IsFirstPlace (codes "*/") (drop 2 here) n × (m ≡ skips (n + 4))) ⊎ (((k : ℕ) → Begins (drop k (drop 2 here)) (codes "*/") → ⊥) × (m ≡ fails (OpenComment at)))
+  Closes m = ((n : ℕ) × IsFirstPlace (codes "*/") (drop 2 here) n × (m ≡ skips (n + 4))) ⊎ (HasNoPlace (codes "*/") (drop 2 here) × (m ≡ fails (OpenComment at)))
 
   abbrev pub Includes : Move → Type 0
   Includes m = (IsIncludeLine × (m ≡ skips (line_length here))) ⊎ ((IsIncludeLine → ⊥) × (m ≡ fails (BadByte at)))
@@ -84,7 +87,7 @@ module _ (before here : Text) (at : ℕ) where
     pub rest : Text
     pub parts : here ≡ codes "\"" ++ inside ++ rest
     pub sound : is_inside inside ≡ true
-    pub halts : continues rest ≡ false
+    pub halts : goes_on rest ≡ false
     pub move : m ≡ after_inside at (length inside) rest
 
   pub record Takes (m : Move) : Type 0 where
@@ -94,12 +97,12 @@ module _ (before here : Text) (at : ℕ) where
     pub judged : Judged at kind size m
 
   abbrev pub Settled : Class → Move → Type 0
-  Settled Ends m = m ≡ ends
-  Settled Blank m = m ≡ skips 1
-  Settled LineComment m = m ≡ skips (line_length here)
-  Settled Comment m = Closes m
-  Settled Hash m = Includes m
-  Settled Quote m = Quoted m
+  Settled class.End m = m ≡ ends
+  Settled class.Blank m = m ≡ skips 1
+  Settled class.LineComment m = m ≡ skips (line_length here)
+  Settled class.Comment m = Closes m
+  Settled class.Hash m = Includes m
+  Settled class.Quote m = Quoted m
   Settled _ m = Takes m ⊎ (NoneStands here × (m ≡ fails (BadByte at)))
 
   -- ---- each class settles one move
@@ -151,16 +154,15 @@ module _ (before here : Text) (at : ℕ) where
   token_once m n (inr h) (inr i) = cc
 
   pub settled_once : (c : Class) (m n : Move) → Settled c m → Settled c n → m ≡ n
-  settled_once Ends m n h i = cc
-  settled_once Blank m n h i = cc
-  settled_once LineComment m n h i = cc
-  settled_once Comment m n h i = closes_once m n h i
-  settled_once Hash m n h i = includes_once m n h i
-  settled_once Quote m n h i = quoted_once m n h i
-  settled_once Letter m n h i = token_once m n h i
-  settled_once Digit m n h i = token_once m n h i
-  settled_once MarkByte m n h i = token_once m n h i
-  settled_once Other m n h i = token_once m n h i
+  settled_once class.End m n h i = cc
+  settled_once class.Blank m n h i = cc
+  settled_once class.LineComment m n h i = cc
+  settled_once class.Comment m n h i = closes_once m n h i
+  settled_once class.Hash m n h i = includes_once m n h i
+  settled_once class.Quote m n h i = quoted_once m n h i
+  settled_once class.Letter m n h i = token_once m n h i
+  settled_once class.Digit m n h i = token_once m n h i
+  settled_once class.Other m n h i = token_once m n h i
 
 -- ---- a blank, a token and a fault are what is settled
 
@@ -192,7 +194,7 @@ quoted before here at n h =
     let p : here ≡ codes "\"" ++ inside ++ rest = sym (take-append-drop n here) ∙ ap (λ t. t ++ drop n here) s.2 ∙ append_assoc (codes "\"" ++ inside) (codes "\"") (drop n here) in
     rw (stands_class here Str n h) (record { inside = inside; rest = rest; parts = p; sound = s.1; halts = quote_halts (drop n here); move = ap (takes Str) e })
   where
-    quote_halts : (bs : Text) → continues (codes "\"" ++ bs) ≡ false
+    quote_halts : (bs : Text) → goes_on (codes "\"" ++ bs) ≡ false
     quote_halts [] = refl
     quote_halts (b ∷ bs) = refl
 
@@ -205,17 +207,16 @@ token_settled before here at n (Marked m) h i = taken before here at (Marked m) 
 
 broken : (before here inside rest : Text) (at : ℕ) (m : Move) → BreaksOff here inside rest → m ≡ after_inside at (length inside) rest → Settled before here at (class_at here) m
 broken before here inside rest at m h e =
-    rw (ap class_at h.parts ∙ unslashed 34 (inside ++ rest) refl) (record { inside = inside; rest = rest; parts = h.parts; sound = h.sound; halts = continues_no_more rest h.stops; move = e })
+    rw (ap class_at h.parts ∙ unslashed 34 (inside ++ rest) refl) (record { inside = inside; rest = rest; parts = h.parts; sound = h.sound; halts = h.stops; move = e })
 
-no_quote : (b : ℕ) (rest : Text) → goes_on (b ∷ rest) ≡ false → (b == 34) ≡ false
-no_quote b [] h = (or_parts (is_plain b) (b == 34) h).1
-no_quote b (c ∷ bs) h = (or_parts (is_plain b) (b == 34) (or_parts (is_plain b || b == 34) _ h).0).1
+no_quote : (b : ℕ) (rest : Text) → (Begins (b ∷ rest) (codes "\"") → ⊥) → (b == 34) ≡ false
+no_quote b rest h = false_from_ne_true (b == 34) (λ e. h (rest, ap (λ c. c ∷ rest) (eqb-true b 34 e)))
 
-at_line_end : (at n : ℕ) (rest : Text) → goes_on rest ≡ false → is_line_end rest ≡ true → fails (OpenString at) ≡ after_inside at n rest
+at_line_end : (at n : ℕ) (rest : Text) → (Begins rest (codes "\"") → ⊥) → is_line_end rest ≡ true → fails (OpenString at) ≡ after_inside at n rest
 at_line_end at n [] h i = refl
 at_line_end at n (b ∷ bs) h i = rw (no_quote b bs h, i) refl
 
-at_bad_byte : (at n : ℕ) (rest : Text) → goes_on rest ≡ false → is_line_end rest ≡ false → fails (BadByte (at + 1 + n)) ≡ after_inside at n rest
+at_bad_byte : (at n : ℕ) (rest : Text) → (Begins rest (codes "\"") → ⊥) → is_line_end rest ≡ false → fails (BadByte (at + 1 + n)) ≡ after_inside at n rest
 at_bad_byte at n [] h i = cc
 at_bad_byte at n (b ∷ bs) h i = rw (no_quote b bs h, i) refl
 
@@ -227,15 +228,14 @@ module _ (before here : Text) (at : ℕ) (some : 0 < length here) (no_blank : (n
   by_byte : (b : ℕ) (rest : Text) → here ≡ b ∷ rest → BadMove (byte_class b)
   by_byte b rest e = go (is_blank b) refl (b == 35) refl (b == 34) refl
     where
-      others : BadMove (cond (is_letter b) Letter (cond (is_digit b) Digit (cond (is_mark_byte b) MarkByte Other)))
-      others = by_letter (is_letter b) (is_digit b) (is_mark_byte b)
+      others : BadMove (cond (is_letter b) class.Letter (cond (is_digit b) class.Digit class.Other))
+      others = by_letter (is_letter b) (is_digit b)
         where
-          by_letter : (x y z : Bool) → BadMove (cond x Letter (cond y Digit (cond z MarkByte Other)))
-          by_letter true y z = inr (no_token, refl)
-          by_letter false true z = inr (no_token, refl)
-          by_letter false false true = inr (no_token, refl)
-          by_letter false false false = inr (no_token, refl)
-      go : (x : Bool) → is_blank b ≡ x → (y : Bool) → (b == 35) ≡ y → (z : Bool) → (b == 34) ≡ z → BadMove (cond x Blank (cond y Hash (cond z Quote (cond (is_letter b) Letter (cond (is_digit b) Digit (cond (is_mark_byte b) MarkByte Other))))))
+          by_letter : (x y : Bool) → BadMove (cond x class.Letter (cond y class.Digit class.Other))
+          by_letter true y = inr (no_token, refl)
+          by_letter false true = inr (no_token, refl)
+          by_letter false false = inr (no_token, refl)
+      go : (x : Bool) → is_blank b ≡ x → (y : Bool) → (b == 35) ≡ y → (z : Bool) → (b == 34) ≡ z → BadMove (cond x class.Blank (cond y class.Hash (cond z class.Quote (cond (is_letter b) class.Letter (cond (is_digit b) class.Digit class.Other)))))
       go true f y g z k = absurd (no_blank 1 (byte e f))
       go false f true g z k = inr ((λ w. no_blank _ (include_line w.0 w.1)), refl)
       go false f false g true k = absurd (no_string (rest, e ∙ ap (λ c. c ∷ rest) (eqb-true b 34 k)))
@@ -248,7 +248,7 @@ module _ (before here : Text) (at : ℕ) (some : 0 < length here) (no_blank : (n
     where
       two : (n : ℕ) → (b == 47 && c == n) ≡ true → Begins here (47 ∷ n ∷ [])
       two n f = let w = and_parts (b == 47) (c == n) f in (bs, let p = eqb-true b 47 w.0 in let q = eqb-true c n w.1 in cc)
-      go : (x : Bool) → (b == 47 && c == 47) ≡ x → (y : Bool) → (b == 47 && c == 42) ≡ y → BadMove (cond x LineComment (cond y Comment (byte_class b)))
+      go : (x : Bool) → (b == 47 && c == 47) ≡ x → (y : Bool) → (b == 47 && c == 42) ≡ y → BadMove (cond x class.LineComment (cond y class.Comment (byte_class b)))
       go true f y g = absurd (no_blank _ (line_comment (two 47 f)))
       go false f true g = absurd (no_comment (two 42 g))
       go false f false g = by_byte b (c ∷ bs) e
@@ -258,8 +258,8 @@ module _ (before here : Text) (at : ℕ) (some : 0 < length here) (no_blank : (n
 
 pub fault_settled : (text : Text) (at : ℕ) (fault : LexFault) → IsFaultAt text at fault → Settled (take at text) (drop at text) at (class_at (drop at text)) (fails fault)
 fault_settled text at _ (open_comment h i) = rw (ap class_at h.1) (inr (i, refl))
-fault_settled text at _ (open_string {inside} {rest} h i) = broken (take at text) (drop at text) inside rest at _ h (at_line_end at (length inside) rest h.stops i)
+fault_settled text at _ (open_string {inside} {rest} h i) = broken (take at text) (drop at text) inside rest at _ h (at_line_end at (length inside) rest h.not_closed i)
 fault_settled text at _ (long_name {n} h i) = taken (take at text) (drop at text) at Name n _ (λ e. cc) h (inr (i, refl))
 fault_settled text at _ (large_number {value} {n} h i) = taken (take at text) (drop at text) at (Int value) n _ (λ e. cc) h (inr (i, refl))
-fault_settled text at _ (bad_inside {inside} {rest} h i) = broken (take at text) (drop at text) inside rest at _ h (at_bad_byte at (length inside) rest h.stops i)
+fault_settled text at _ (bad_inside {inside} {rest} h i) = broken (take at text) (drop at text) inside rest at _ h (at_bad_byte at (length inside) rest h.not_closed i)
 fault_settled text at _ (bad_byte h i j k l) = bad_settled (take at text) (drop at text) at (omega (arith, length-drop at text)) i j k l

@@ -8,7 +8,7 @@ use Rattle.cc_lexer.specs.declared.fault.LexFault.TheVariants.{TooLong}
 use Rattle.cc_lexer.specs.Spelling.{Text}
 use Rattle.cc_lexer.specs.Cut.{IsBlank, IsTokenOf, is_line_feed, IsCutTo, nothing, blank, token, Cut}
 use Rattle.cc_lexer.specs.Faults.{IsFaultAt, FirstFault, too_long, at_place}
-use Rattle.cc_lexer.proofs.Classes.{class_at}
+use Rattle.cc_lexer.specs.Next.{class_at}
 use Rattle.cc_lexer.proofs.Moves.{Move, ends, skips, takes, fails, Settled, settled_once, blank_settled, token_settled, fault_settled}
 
 abbrev pub Outcome : Type 0

@@ -32,6 +32,10 @@ pub record IsFirstPlace (bytes text : Text) (n : ℕ) : Type 0 where
   pub found : Begins (drop n text) bytes
   pub first : (k : ℕ) → Begins (drop k text) bytes → n ≤ k
 
+-- They stand nowhere in it.
+abbrev pub HasNoPlace : Text → Text → Type 0
+HasNoPlace bytes text = (k : ℕ) → Begins (drop k text) bytes → ⊥
+
 -- The first n bytes from here on are a blank, where `before` is what the text has before them: a byte, a comment to the
 -- end of the line, a comment that is closed, or the rest of an include line.
 pub data IsBlank (before here : Text) : ℕ → Type 0 where

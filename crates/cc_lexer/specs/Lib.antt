@@ -3,3 +3,5 @@ pub mod Spelling
 pub mod Cut
 pub mod Faults
 pub mod Lexemes
+pub mod Next
+pub mod String
