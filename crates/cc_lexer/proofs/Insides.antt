@@ -1,7 +1,8 @@
 -- How far the inside of a string goes is settled by the bytes.
-use Rattle.std.proofs.Common.{◌≡◌, ◌≤◌, ℕ, suc, ◌+◌, take, Bool, true, false, ◌||◌, ◌&&◌, not, ◌==◌, cond, List, [], ◌∷◌, ◌++◌, length, drop, refl, ap, sym, ◌∙◌, arith}
+use Rattle.std.proofs.Common.{◌≡◌, ◌≤◌, ℕ, suc, ◌+◌, take, Bool, true, false, ◌||◌, ◌&&◌, not, ◌==◌, cond, List, [], ◌∷◌, ◌++◌, length, drop, refl, ap, sym, ◌∙◌, arith, length-append, take-append-drop}
+use Rattle.std.specs.Prelude.{codes}
 use Rattle.std.proofs.lemmas.Bool.{and_parts, or_parts, cases_Bool, not-true}
-use Rattle.std.proofs.lemmas.List.{drop_at}
+use Rattle.std.proofs.lemmas.List.{drop_at, append_assoc, length-take-le}
 use Rattle.cc_lexer.specs.Spelling.{Text, is_plain, is_escape, is_inside}
 use Rattle.cc_lexer.specs.Faults.{goes_on}
 use Rattle.cc_lexer.specs.String.{unit_length}
@@ -83,3 +84,18 @@ is_inside-append (x ∷ y ∷ a) b h i = go (x == 92) refl h (λ k. is_inside-ap
 
 pub inside_more : (here : Text) (n : ℕ) → is_inside (take n here) ≡ true → is_inside (take (n + unit_length (drop n here)) here) ≡ true
 inside_more here n h = rw (take-add n (unit_length (drop n here)) here) (is_inside-append (take n here) (take (unit_length (drop n here)) (drop n here)) h (unit_inside (drop n here)))
+
+-- ---- a string at the front of a text
+
+string_length : (inside : Text) → length (codes "\"" ++ inside ++ codes "\"") ≡ length inside + 2
+string_length inside = omega (arith, length-append (codes "\"" ++ inside) (codes "\""), length-append (codes "\"") inside)
+
+pub string_size : (here inside : Text) (n : ℕ) → n ≤ length here → take n here ≡ codes "\"" ++ inside ++ codes "\"" → n ≡ length inside + 2
+string_size here inside n h e = omega (arith, ap length e, string_length inside, length-take-le n here h)
+
+pub string_parts : (here inside : Text) (n : ℕ) → take n here ≡ codes "\"" ++ inside ++ codes "\"" → here ≡ codes "\"" ++ inside ++ (codes "\"" ++ drop n here)
+string_parts here inside n e = sym (take-append-drop n here) ∙ ap (λ t. t ++ drop n here) e ∙ append_assoc (codes "\"" ++ inside) (codes "\"") (drop n here)
+
+pub quote_halts : (bs : Text) → goes_on (codes "\"" ++ bs) ≡ false
+quote_halts [] = refl
+quote_halts (b ∷ bs) = refl

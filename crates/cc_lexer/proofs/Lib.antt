@@ -5,3 +5,9 @@ pub mod Moves
 pub mod Outcomes
 pub mod Blanks
 pub mod Decimals
+pub mod Views
+pub mod Apart
+pub mod MarkFronts
+pub mod Strings
+pub mod Fronts
+pub mod Longest

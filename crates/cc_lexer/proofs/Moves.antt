@@ -11,13 +11,13 @@ use Rattle.cc_lexer.specs.declared.fault.LexFault.{LexFault}
 use Rattle.cc_lexer.specs.declared.fault.LexFault.TheVariants.{BadByte, OpenComment, OpenString, LongName, NumberTooLarge}
 use Rattle.cc_lexer.specs.Spelling.{Text, is_inside, is_plain, is_letter, is_digit, Spells}
 use Rattle.cc_lexer.specs.Cut.{Begins, HasNoPlace, is_blank, is_line_feed, line_length, is_indent, IsFirstPlace, IsBlank, byte, line_comment, comment, include_line, Stands, IsLongest, NoneStands, IsWithinLimits}
-use Rattle.cc_lexer.specs.Faults.{goes_on, is_line_end, BreaksOff, IsFaultAt, open_comment, open_string, long_name, large_number, bad_inside, bad_byte}
+use Rattle.cc_lexer.specs.Faults.{goes_on, is_line_end, BreaksOff, IsFault, open_comment, open_string, long_name, large_number, bad_inside, bad_byte}
 use Rattle.cc_lexer.specs.declared.class.Class.{Class}
 use Rattle.cc_lexer.specs.declared.class.Class.TheVariants as class
 use Rattle.cc_lexer.specs.Next.{byte_class, class_at}
 use Rattle.cc_lexer.proofs.Classes.{class_of, spelled_class}
 use Rattle.cc_lexer.proofs.OneKind.{one_kind}
-use Rattle.cc_lexer.proofs.Insides.{inside_once}
+use Rattle.cc_lexer.proofs.Insides.{inside_once, string_size, string_parts, quote_halts}
 
 -- what a text has next
 pub data Move : Type 0 where
@@ -28,14 +28,14 @@ pub data Move : Type 0 where
 
 -- ---- the class of a text
 
-unslashed : (b : ℕ) (rest : Text) → (b == 47) ≡ false → class_at (b ∷ rest) ≡ byte_class b
+pub unslashed : (b : ℕ) (rest : Text) → (b == 47) ≡ false → class_at (b ∷ rest) ≡ byte_class b
 unslashed b [] h = refl
 unslashed b (c ∷ bs) h = rw h refl
 
 blank_slash : (b : ℕ) → is_blank b ≡ true → (b == 47) ≡ false
 blank_slash b h = grind (arith, nat_tests)
 
-blank_class : (b : ℕ) (rest : Text) → is_blank b ≡ true → class_at (b ∷ rest) ≡ class.Blank
+pub blank_class : (b : ℕ) (rest : Text) → is_blank b ≡ true → class_at (b ∷ rest) ≡ class.Blank
 blank_class b rest h = unslashed b rest (blank_slash b h) ∙ rw h refl
 
 no_class : (kind : TokenKind) → class.End ≡ class_of kind → ⊥
@@ -72,15 +72,18 @@ Judged at Name n m = ((n ≤ 255) × (m ≡ takes Name n)) ⊎ ((255 < n) × (m 
 Judged at (Int v) n m = ((v ≤ℤ pos 9223372036854775807) × (m ≡ takes (Int v) n)) ⊎ ((pos 9223372036854775807 <ℤ v) × (m ≡ fails (NumberTooLarge at)))
 Judged at kind n m = m ≡ takes kind n
 
-module _ (before here : Text) (at : ℕ) where
+module _ (before here : Text) where
+  abbrev pub place : ℕ
+  place = length before
+
   abbrev pub IsIncludeLine : Type 0
   IsIncludeLine = Begins here (codes "#include") × IsTrue (is_indent before)
 
   abbrev pub Closes : Move → Type 0
-  Closes m = ((n : ℕ) × IsFirstPlace (codes "*/") (drop 2 here) n × (m ≡ skips (n + 4))) ⊎ (HasNoPlace (codes "*/") (drop 2 here) × (m ≡ fails (OpenComment at)))
+  Closes m = ((n : ℕ) × IsFirstPlace (codes "*/") (drop 2 here) n × (m ≡ skips (n + 4))) ⊎ (HasNoPlace (codes "*/") (drop 2 here) × (m ≡ fails (OpenComment place)))
 
   abbrev pub Includes : Move → Type 0
-  Includes m = (IsIncludeLine × (m ≡ skips (line_length here))) ⊎ ((IsIncludeLine → ⊥) × (m ≡ fails (BadByte at)))
+  Includes m = (IsIncludeLine × (m ≡ skips (line_length here))) ⊎ ((IsIncludeLine → ⊥) × (m ≡ fails (BadByte place)))
 
   pub record Quoted (m : Move) : Type 0 where
     pub inside : Text
@@ -88,13 +91,13 @@ module _ (before here : Text) (at : ℕ) where
     pub parts : here ≡ codes "\"" ++ inside ++ rest
     pub sound : is_inside inside ≡ true
     pub halts : goes_on rest ≡ false
-    pub move : m ≡ after_inside at (length inside) rest
+    pub move : m ≡ after_inside place (length inside) rest
 
   pub record Takes (m : Move) : Type 0 where
     pub kind : TokenKind
     pub size : ℕ
     pub longest : IsLongest here kind size
-    pub judged : Judged at kind size m
+    pub judged : Judged place kind size m
 
   abbrev pub Settled : Class → Move → Type 0
   Settled class.End m = m ≡ ends
@@ -103,7 +106,7 @@ module _ (before here : Text) (at : ℕ) where
   Settled class.Comment m = Closes m
   Settled class.Hash m = Includes m
   Settled class.Quote m = Quoted m
-  Settled _ m = Takes m ⊎ (NoneStands here × (m ≡ fails (BadByte at)))
+  Settled _ m = Takes m ⊎ (NoneStands here × (m ≡ fails (BadByte place)))
 
   -- ---- each class settles one move
 
@@ -125,7 +128,7 @@ module _ (before here : Text) (at : ℕ) where
       let w = inside_once h.inside i.inside h.rest i.rest h.sound i.sound h.halts i.halts cc in
       cc (h.move, i.move, w.0, w.1)
 
-  judged_once : (kind : TokenKind) (k : ℕ) (m n : Move) → Judged at kind k m → Judged at kind k n → m ≡ n
+  judged_once : (kind : TokenKind) (k : ℕ) (m n : Move) → Judged place kind k m → Judged place kind k n → m ≡ n
   judged_once Name k m n (inl h) (inl i) = cc
   judged_once Name k m n (inl h) (inr i) = absurd (omega (arith, h.0, i.0))
   judged_once Name k m n (inr h) (inl i) = absurd (omega (arith, h.0, i.0))
@@ -147,7 +150,7 @@ module _ (before here : Text) (at : ℕ) where
       let j = i.judged in
       judged_once h.kind h.size m n h.judged (rw (k, e) at j)
 
-  token_once : (m n : Move) → Takes m ⊎ (NoneStands here × (m ≡ fails (BadByte at))) → Takes n ⊎ (NoneStands here × (n ≡ fails (BadByte at))) → m ≡ n
+  token_once : (m n : Move) → Takes m ⊎ (NoneStands here × (m ≡ fails (BadByte place))) → Takes n ⊎ (NoneStands here × (n ≡ fails (BadByte place))) → m ≡ n
   token_once m n (inl h) (inl i) = takes_once m n h i
   token_once m n (inl h) (inr i) = absurd (i.0 h.kind h.size h.longest.stands)
   token_once m n (inr h) (inl i) = absurd (h.0 i.kind i.size i.longest.stands)
@@ -166,47 +169,36 @@ module _ (before here : Text) (at : ℕ) where
 
 -- ---- a blank, a token and a fault are what is settled
 
-pub blank_settled : (before here : Text) (at n : ℕ) → IsBlank before here n → Settled before here at (class_at here) (skips n)
-blank_settled before here at _ (byte {b} {rest} e h) = rw (ap class_at e ∙ blank_class b rest h) refl
-blank_settled before here at _ (line_comment h) = rw (ap class_at h.1) refl
-blank_settled before here at _ (comment {n} h i) = rw (ap class_at h.1) (inl (n, i, refl))
-blank_settled before here at _ (include_line h i) = rw (ap class_at h.1) (inl ((h, i), refl))
+pub blank_settled : (before here : Text) (n : ℕ) → IsBlank before here n → Settled before here (class_at here) (skips n)
+blank_settled before here _ (byte {b} {rest} e h) = rw (ap class_at e ∙ blank_class b rest h) refl
+blank_settled before here _ (line_comment h) = rw (ap class_at h.1) refl
+blank_settled before here _ (comment {n} h i) = rw (ap class_at h.1) (inl (n, i, refl))
+blank_settled before here _ (include_line h i) = rw (ap class_at h.1) (inl ((h, i), refl))
 
-taken : (before here : Text) (at : ℕ) (kind : TokenKind) (n : ℕ) (m : Move) → kind ≢ Str → IsLongest here kind n → Judged at kind n m → Settled before here at (class_at here) m
-taken before here at kind n m not_string h j = rw (stands_class here kind n h.stands) (go kind not_string (inl (record { kind = kind; size = n; longest = h; judged = j })))
+taken : (before here : Text) (kind : TokenKind) (n : ℕ) (m : Move) → kind ≢ Str → IsLongest here kind n → Judged (length before) kind n m → Settled before here (class_at here) m
+taken before here kind n m not_string h j = rw (stands_class here kind n h.stands) (go kind not_string (inl (record { kind = kind; size = n; longest = h; judged = j })))
   where
-    go : (k : TokenKind) → k ≢ Str → Takes before here at m ⊎ (NoneStands here × (m ≡ fails (BadByte at))) → Settled before here at (class_of k) m
+    go : (k : TokenKind) → k ≢ Str → Takes before here m ⊎ (NoneStands here × (m ≡ fails (BadByte (length before)))) → Settled before here (class_of k) m
     go Str apart t = absurd (apart refl)
     go Name apart t = t
     go (Int v) apart t = t
     go (Word w) apart t = t
     go (Marked x) apart t = t
 
-string_length : (inside : Text) → length (codes "\"" ++ inside ++ codes "\"") ≡ length inside + 2
-string_length inside = omega (arith, length-append (codes "\"" ++ inside) (codes "\""), length-append (codes "\"") inside)
-
-quoted : (before here : Text) (at n : ℕ) → Stands here Str n → Settled before here at (class_at here) (takes Str n)
-quoted before here at n h =
+quoted : (before here : Text) (n : ℕ) → Stands here Str n → Settled before here (class_at here) (takes Str n)
+quoted before here n h =
     let s = h.spelled in
-    let inside = s.0 in
-    let rest = codes "\"" ++ drop n here in
-    let e : n ≡ length inside + 2 = omega (arith, ap length s.2, string_length inside, length-take-le n here h.within) in
-    let p : here ≡ codes "\"" ++ inside ++ rest = sym (take-append-drop n here) ∙ ap (λ t. t ++ drop n here) s.2 ∙ append_assoc (codes "\"" ++ inside) (codes "\"") (drop n here) in
-    rw (stands_class here Str n h) (record { inside = inside; rest = rest; parts = p; sound = s.1; halts = quote_halts (drop n here); move = ap (takes Str) e })
-  where
-    quote_halts : (bs : Text) → goes_on (codes "\"" ++ bs) ≡ false
-    quote_halts [] = refl
-    quote_halts (b ∷ bs) = refl
+    rw (stands_class here Str n h) (record { inside = s.0; rest = codes "\"" ++ drop n here; parts = string_parts here s.0 n s.2; sound = s.1; halts = quote_halts (drop n here); move = ap (takes Str) (string_size here s.0 n h.within s.2) })
 
-pub token_settled : (before here : Text) (at n : ℕ) (kind : TokenKind) → IsLongest here kind n → IsWithinLimits kind n → Settled before here at (class_at here) (takes kind n)
-token_settled before here at n Name h i = taken before here at Name n _ (λ e. cc) h (inl (i, refl))
-token_settled before here at n (Int v) h i = taken before here at (Int v) n _ (λ e. cc) h (inl (i, refl))
-token_settled before here at n Str h i = quoted before here at n h.stands
-token_settled before here at n (Word w) h i = taken before here at (Word w) n _ (λ e. cc) h refl
-token_settled before here at n (Marked m) h i = taken before here at (Marked m) n _ (λ e. cc) h refl
+pub token_settled : (before here : Text) (n : ℕ) (kind : TokenKind) → IsLongest here kind n → IsWithinLimits kind n → Settled before here (class_at here) (takes kind n)
+token_settled before here n Name h i = taken before here Name n _ (λ e. cc) h (inl (i, refl))
+token_settled before here n (Int v) h i = taken before here (Int v) n _ (λ e. cc) h (inl (i, refl))
+token_settled before here n Str h i = quoted before here n h.stands
+token_settled before here n (Word w) h i = taken before here (Word w) n _ (λ e. cc) h refl
+token_settled before here n (Marked m) h i = taken before here (Marked m) n _ (λ e. cc) h refl
 
-broken : (before here inside rest : Text) (at : ℕ) (m : Move) → BreaksOff here inside rest → m ≡ after_inside at (length inside) rest → Settled before here at (class_at here) m
-broken before here inside rest at m h e =
+broken : (before here inside rest : Text) (m : Move) → BreaksOff here inside rest → m ≡ after_inside (length before) (length inside) rest → Settled before here (class_at here) m
+broken before here inside rest m h e =
     rw (ap class_at h.parts ∙ unslashed 34 (inside ++ rest) refl) (record { inside = inside; rest = rest; parts = h.parts; sound = h.sound; halts = h.stops; move = e })
 
 no_quote : (b : ℕ) (rest : Text) → (Begins (b ∷ rest) (codes "\"") → ⊥) → (b == 34) ≡ false
@@ -221,9 +213,9 @@ at_bad_byte at n [] h i = cc
 at_bad_byte at n (b ∷ bs) h i = rw (no_quote b bs h, i) refl
 
 -- what is known where a byte begins neither a blank, a comment, a string nor a token
-module _ (before here : Text) (at : ℕ) (some : 0 < length here) (no_blank : (n : ℕ) → IsBlank before here n → ⊥) (no_token : NoneStands here) (no_comment : Begins here (codes "/*") → ⊥) (no_string : Begins here (codes "\"") → ⊥) where
+module _ (before here : Text) (some : 0 < length here) (no_blank : (n : ℕ) → IsBlank before here n → ⊥) (no_token : NoneStands here) (no_comment : Begins here (codes "/*") → ⊥) (no_string : Begins here (codes "\"") → ⊥) where
   abbrev BadMove : Class → Type 0
-  BadMove c = Settled before here at c (fails (BadByte at))
+  BadMove c = Settled before here c (fails (BadByte (length before)))
 
   by_byte : (b : ℕ) (rest : Text) → here ≡ b ∷ rest → BadMove (byte_class b)
   by_byte b rest e = go (is_blank b) refl (b == 35) refl (b == 34) refl
@@ -256,10 +248,10 @@ module _ (before here : Text) (at : ℕ) (some : 0 < length here) (no_blank : (n
   pub bad_settled : BadMove (class_at here)
   bad_settled = by_bytes here refl
 
-pub fault_settled : (text : Text) (at : ℕ) (fault : LexFault) → IsFaultAt text at fault → Settled (take at text) (drop at text) at (class_at (drop at text)) (fails fault)
-fault_settled text at _ (open_comment h i) = rw (ap class_at h.1) (inr (i, refl))
-fault_settled text at _ (open_string {inside} {rest} h i) = broken (take at text) (drop at text) inside rest at _ h (at_line_end at (length inside) rest h.not_closed i)
-fault_settled text at _ (long_name {n} h i) = taken (take at text) (drop at text) at Name n _ (λ e. cc) h (inr (i, refl))
-fault_settled text at _ (large_number {value} {n} h i) = taken (take at text) (drop at text) at (Int value) n _ (λ e. cc) h (inr (i, refl))
-fault_settled text at _ (bad_inside {inside} {rest} h i) = broken (take at text) (drop at text) inside rest at _ h (at_bad_byte at (length inside) rest h.not_closed i)
-fault_settled text at _ (bad_byte h i j k l) = bad_settled (take at text) (drop at text) at (omega (arith, length-drop at text)) i j k l
+pub fault_settled : (before here : Text) (fault : LexFault) → IsFault before here fault → Settled before here (class_at here) (fails fault)
+fault_settled before here _ (open_comment h i) = rw (ap class_at h.1) (inr (i, refl))
+fault_settled before here _ (open_string {inside} {rest} h i) = broken before here inside rest _ h (at_line_end (length before) (length inside) rest h.not_closed i)
+fault_settled before here _ (long_name {n} h i) = taken before here Name n _ (λ e. cc) h (inr (i, refl))
+fault_settled before here _ (large_number {value} {n} h i) = taken before here (Int value) n _ (λ e. cc) h (inr (i, refl))
+fault_settled before here _ (bad_inside {inside} {rest} h i) = broken before here inside rest _ h (at_bad_byte (length before) (length inside) rest h.not_closed i)
+fault_settled before here _ (bad_byte h i j k l) = bad_settled before here h i j k l

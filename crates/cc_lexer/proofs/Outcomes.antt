@@ -7,7 +7,7 @@ use Rattle.cc_lexer.specs.declared.fault.LexFault.{LexFault}
 use Rattle.cc_lexer.specs.declared.fault.LexFault.TheVariants.{TooLong}
 use Rattle.cc_lexer.specs.Spelling.{Text}
 use Rattle.cc_lexer.specs.Cut.{IsBlank, IsTokenOf, is_line_feed, IsCutTo, nothing, blank, token, Cut}
-use Rattle.cc_lexer.specs.Faults.{IsFaultAt, FirstFault, too_long, at_place}
+use Rattle.cc_lexer.specs.Faults.{IsFault, FirstFault, too_long, at_place}
 use Rattle.cc_lexer.specs.Next.{class_at}
 use Rattle.cc_lexer.proofs.Moves.{Move, ends, skips, takes, fails, Settled, settled_once, blank_settled, token_settled, fault_settled}
 
@@ -21,13 +21,13 @@ put t (Err fault) = Err fault
 -- from this place on the text comes to this
 data Leads (text : Text) : ℕ → Outcome → Type 0 where
   stops : {at : ℕ} → at ≡ length text → Leads text at (Ok [])
-  breaks : {at : ℕ} {fault : LexFault} → IsFaultAt text at fault → Leads text at (Err fault)
+  breaks : {at : ℕ} {fault : LexFault} → IsFault (take at text) (drop at text) fault → Leads text at (Err fault)
   after_blank : {at n : ℕ} {r : Outcome} → IsBlank (take at text) (drop at text) n → Leads text (at + n) r → Leads text at r
   after_token : {at : ℕ} {t : Token} {r : Outcome} → t.start ≡ at → IsTokenOf text t → Leads text t.end r → Leads text at (put t r)
 
 module _ (text : Text) where
   abbrev SettledAt : ℕ → Move → Type 0
-  SettledAt at m = Settled (take at text) (drop at text) at (class_at (drop at text)) m
+  SettledAt at m = Settled (take at text) (drop at text) (class_at (drop at text)) m
 
   move_of : {at : ℕ} {r : Outcome} → Leads text at r → Move
   move_of (stops e) = ends
@@ -38,9 +38,9 @@ module _ (text : Text) where
   move_settled : {at : ℕ} {r : Outcome} → (l : Leads text at r) → SettledAt at (move_of l)
   unfolding move_of
   move_settled (stops {at} e) = let none : drop at text ≡ [] = drop_all at text (omega arith) in rw none refl
-  move_settled (breaks {at} {fault} h) = fault_settled text at fault h
-  move_settled (after_blank {at} {n} {r} h l) = blank_settled (take at text) (drop at text) at n h
-  move_settled (after_token {at} {t} {r} e h l) = subst (λ k. SettledAt k (takes t.kind (t.end - t.start))) e (token_settled (take t.start text) (drop t.start text) t.start (t.end - t.start) t.kind h.longest h.within_limits)
+  move_settled (breaks {at} {fault} h) = fault_settled (take at text) (drop at text) fault h
+  move_settled (after_blank {at} {n} {r} h l) = blank_settled (take at text) (drop at text) n h
+  move_settled (after_token {at} {t} {r} e h l) = subst (λ k. SettledAt k (takes t.kind (t.end - t.start))) e (token_settled (take t.start text) (drop t.start text) (t.end - t.start) t.kind h.longest h.within_limits)
 
   token_eq : (t u : Token) → t.kind ≡ u.kind → t.start ≡ u.start → t.end ≡ u.end → t.line ≡ u.line → t ≡ u
   token_eq t u a b c d = λ i. record { kind = a i; start = b i; end = c i; line = d i }
@@ -52,7 +52,7 @@ module _ (text : Text) where
       token_eq t u k s (omega (arith, h.in_order, i.in_order)) (h.line ∙ ap (λ a. 1 + count_by is_line_feed (take a text)) s ∙ sym i.line)
 
   same_move : {at : ℕ} {r s : Outcome} → (l : Leads text at r) → (k : Leads text at s) → move_of l ≡ move_of k
-  same_move {at} l k = settled_once (take at text) (drop at text) at (class_at (drop at text)) (move_of l) (move_of k) (move_settled l) (move_settled k)
+  same_move {at} l k = settled_once (take at text) (drop at text) (class_at (drop at text)) (move_of l) (move_of k) (move_settled l) (move_settled k)
 
   by_move : {at : ℕ} {r s : Outcome} → (l : Leads text at r) → (k : Leads text at s) → move_of l ≡ move_of k → r ≡ s
   unfolding move_of
@@ -94,7 +94,7 @@ module _ (text : Text) where
   cut_leads : (tokens : List Token) → Cut text tokens → Leads text 0 (Ok tokens)
   cut_leads tokens h = let l = leads h.whole (Ok []) (stops refl) in rw (append-nil tokens) at l
 
-  fault_leads : {at : ℕ} {tokens : List Token} {fault : LexFault} → IsCutTo text at tokens → IsFaultAt text at fault → Leads text 0 (Err fault)
+  fault_leads : {at : ℕ} {tokens : List Token} {fault : LexFault} → IsCutTo text at tokens → IsFault (take at text) (drop at text) fault → Leads text 0 (Err fault)
   fault_leads c h = leads c (Err _) (breaks h)
 
   pub one_cut : (tokens others : List Token) → Cut text tokens → Cut text others → tokens ≡ others

@@ -24,17 +24,17 @@ pub record BreaksOff (here inside rest : Text) : Type 0 where
   pub stops : IsFalse (goes_on rest)
   pub not_closed : Begins rest (codes "\"") → ⊥
 
--- What is wrong at a place.
-pub data IsFaultAt (text : Text) (at : ℕ) : LexFault → Type 0 where
-  open_comment : Begins (drop at text) (codes "/*") → HasNoPlace (codes "*/") (drop 2 (drop at text)) → IsFaultAt text at (OpenComment at)
-  open_string : {inside rest : Text} → BreaksOff (drop at text) inside rest → IsTrue (is_line_end rest) → IsFaultAt text at (OpenString at)
-  long_name : {n : ℕ} → IsLongest (drop at text) Name n → 255 < n → IsFaultAt text at (LongName at)
-  large_number : {value : ℤ} {n : ℕ} → IsLongest (drop at text) (Int value) n → pos 9223372036854775807 <ℤ value → IsFaultAt text at (NumberTooLarge at)
-  bad_inside : {inside rest : Text} → BreaksOff (drop at text) inside rest → IsFalse (is_line_end rest) → IsFaultAt text at (BadByte (at + 1 + length inside))
-  -- any other byte that begins neither a token nor a blank
-  bad_byte : at < length text → ((n : ℕ) → IsBlank (take at text) (drop at text) n → ⊥) → NoneStands (drop at text) → (Begins (drop at text) (codes "/*") → ⊥) → (Begins (drop at text) (codes "\"") → ⊥) → IsFaultAt text at (BadByte at)
+-- What is wrong at the front of `here`, where the text has `before` before it: a fault is named by its place.
+pub data IsFault (before here : Text) : LexFault → Type 0 where
+  open_comment : Begins here (codes "/*") → HasNoPlace (codes "*/") (drop 2 here) → IsFault before here (OpenComment (length before))
+  open_string : {inside rest : Text} → BreaksOff here inside rest → IsTrue (is_line_end rest) → IsFault before here (OpenString (length before))
+  long_name : {n : ℕ} → IsLongest here Name n → 255 < n → IsFault before here (LongName (length before))
+  large_number : {value : ℤ} {n : ℕ} → IsLongest here (Int value) n → pos 9223372036854775807 <ℤ value → IsFault before here (NumberTooLarge (length before))
+  bad_inside : {inside rest : Text} → BreaksOff here inside rest → IsFalse (is_line_end rest) → IsFault before here (BadByte (length before + 1 + length inside))
+  -- any other byte that begins neither a blank nor a token
+  bad_byte : 0 < length here → ((n : ℕ) → IsBlank before here n → ⊥) → NoneStands here → (Begins here (codes "/*") → ⊥) → (Begins here (codes "\"") → ⊥) → IsFault before here (BadByte (length before))
 
 -- The text is too long, or up to some place it is blanks and tokens in turn, and this is wrong there.
 pub data FirstFault (text : Text) : LexFault → Type 0 where
   too_long : 1048576 < length text → FirstFault text TooLong
-  at_place : {at : ℕ} {tokens : List Token} {fault : LexFault} → length text ≤ 1048576 → IsCutTo text at tokens → IsFaultAt text at fault → FirstFault text fault
+  at_place : {at : ℕ} {tokens : List Token} {fault : LexFault} → length text ≤ 1048576 → IsCutTo text at tokens → IsFault (take at text) (drop at text) fault → FirstFault text fault

@@ -7,7 +7,7 @@ use Rattle.cc_lexer.specs.declared.piece.Piece.TheVariants as piece
 use Rattle.cc_lexer.specs.declared.fault.LexFault.{LexFault}
 use Rattle.cc_lexer.specs.Spelling.{Text, is_digit, is_letter}
 use Rattle.cc_lexer.specs.Cut.{is_blank, is_line_feed, IsBlank, IsLongest, IsWithinLimits}
-use Rattle.cc_lexer.specs.Faults.{IsFaultAt}
+use Rattle.cc_lexer.specs.Faults.{IsFault}
 
 -- the class of a text with this first byte, where it begins no comment
 abbrev pub byte_class : ℕ → Class
@@ -19,9 +19,9 @@ class_at [] = class.End
 class_at (b ∷ []) = byte_class b
 class_at (b ∷ c ∷ bs) = if b == 47 && c == 47 then class.LineComment else if b == 47 && c == 42 then class.Comment else byte_class b
 
--- The text ends at this place, or this blank or token stands there, or this fault is there.
-abbrev pub IsNext : Text → ℕ → Result Piece LexFault → Type 0
-IsNext text at (Ok piece.End) = at ≡ length text
-IsNext text at (Ok (piece.Blank n line_feeds)) = IsBlank (take at text) (drop at text) n × (line_feeds ≡ count_by is_line_feed (take n (drop at text)))
-IsNext text at (Ok (piece.Token kind n)) = IsLongest (drop at text) kind n × IsWithinLimits kind n
-IsNext text at (Err fault) = IsFaultAt text at fault
+-- The text ends here, or this blank or token stands here, or this fault is here.
+abbrev pub IsNext : Text → Text → Result Piece LexFault → Type 0
+IsNext before here (Ok piece.End) = here ≡ []
+IsNext before here (Ok (piece.Blank n line_feeds)) = IsBlank before here n × (line_feeds ≡ count_by is_line_feed (take n here))
+IsNext before here (Ok (piece.Token kind n)) = IsLongest here kind n × IsWithinLimits kind n
+IsNext before here (Err fault) = IsFault before here fault

@@ -1,11 +1,49 @@
-ghost use Rattle.std.specs.Prelude.{◌≡◌, ◌↔◌, [], ◌∷◌};
+ghost use Rattle.std.specs.Prelude.{◌≡◌, ◌↔◌, ◌≤◌, ◌+◌, length, take, [], ◌∷◌};
 ghost use Rattle.cc_lexer.specs.Spelling.{mark_text};
+ghost use Rattle.cc_lexer.specs.Next.{class_at, IsNext};
+ghost use Rattle.cc_lexer.specs.declared.class.Class.{Class};
 ghost use Rattle.cc_lexer.specs.declared.token.Mark.{Mark};
 
-use crate::token::Mark;
+use crate::fault::{LexFault, place};
+use crate::piece::Piece;
+use crate::token::{Mark, TokenKind};
+
+/// The longest mark that stands at the front.
+pub fn mark(before: &[u8], here: &[u8]) -> Result<Piece, LexFault>
+    requires short { length before.now + length here.now ≤ 1048576 }
+    requires class { class_at here.now ≡ Class.Other }
+    ensures { IsNext before.now here.now result }
+{
+    if let Some(mark) = double_at(here) {
+        return Ok(marked(mark, 2));
+    }
+    match single(here[0]) {
+        Some(mark) => Ok(marked(mark, 1)),
+        None => Err(LexFault::BadByte { at: place(before) }),
+    }
+}
+
+fn marked(mark: Mark, length: usize) -> Piece
+    ensures { result ≡ Piece.Token (TokenKind.Mark mark) length }
+{
+    Piece::Token {
+        kind: TokenKind::Mark(mark),
+        length,
+    }
+}
+
+/// The mark that the first two bytes are.
+fn double_at(here: &[u8]) -> Option<Mark>
+    ensures { (m : Mark) → (result ≡ Some m) ↔ ((length (mark_text m) ≡ 2) × (take 2 here.now ≡ mark_text m)) }
+{
+    match here {
+        [first, second, ..] => double(*first, *second),
+        _ => None,
+    }
+}
 
 /// The mark that is this byte.
-pub fn single(first: u8) -> Option<Mark>
+fn single(first: u8) -> Option<Mark>
     ensures { (m : Mark) → (result ≡ Some m) ↔ (first ∷ [] ≡ mark_text m) }
 {
     match first {
@@ -34,7 +72,7 @@ pub fn single(first: u8) -> Option<Mark>
 }
 
 /// The mark that is these two bytes.
-pub fn double(first: u8, second: u8) -> Option<Mark>
+fn double(first: u8, second: u8) -> Option<Mark>
     ensures { (m : Mark) → (result ≡ Some m) ↔ (first ∷ second ∷ [] ≡ mark_text m) }
 {
     match (first, second) {

@@ -1,10 +1,39 @@
-ghost use Rattle.std.specs.Prelude.{◌≡◌, ◌≤◌, length, take, drop, IsTrue, IsFalse};
+ghost use Rattle.std.specs.Prelude.{◌≡◌, ◌≤◌, ◌+◌, length, take, drop, IsTrue, IsFalse};
 ghost use Rattle.cc_lexer.specs.Spelling.{is_plain, is_escape, is_inside};
 ghost use Rattle.cc_lexer.specs.Faults.{goes_on};
 ghost use Rattle.cc_lexer.specs.String.{unit_length};
+ghost use Rattle.cc_lexer.specs.Next.{class_at, IsNext};
+ghost use Rattle.cc_lexer.specs.declared.class.Class.{Class};
+
+use crate::fault::{LexFault, place};
+use crate::piece::Piece;
+use crate::token::TokenKind;
+
+/// A string.
+pub fn string(before: &[u8], here: &[u8]) -> Result<Piece, LexFault>
+    requires short { length before.now + length here.now ≤ 1048576 }
+    requires class { class_at here.now ≡ Class.Quote }
+    ensures { IsNext before.now here.now result }
+{
+    let inside = inside_length(&here[1..]);
+    let open = LexFault::OpenString { at: place(before) };
+    let Some(stop) = here.get(inside + 1) else {
+        return Err(open);
+    };
+    match *stop {
+        b'"' => Ok(Piece::Token {
+            kind: TokenKind::Str,
+            length: inside + 2,
+        }),
+        b'\n' => Err(open),
+        _ => Err(LexFault::BadByte {
+            at: place(before) + 1 + inside as u32,
+        }),
+    }
+}
 
 /// How many bytes the inside of a string has that begins here: bytes that stand for themselves and escapes, as many as there are.
-pub fn inside_length(here: &[u8]) -> usize
+fn inside_length(here: &[u8]) -> usize
     ensures within { result ≤ length here.now }
     ensures inside { IsTrue (is_inside (take result here.now)) }
     ensures stops { IsFalse (goes_on (drop result here.now)) }

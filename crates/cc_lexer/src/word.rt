@@ -1,10 +1,17 @@
-ghost use Rattle.std.specs.Prelude.{◌≡◌, ◌↔◌, find};
+ghost use Rattle.std.specs.Prelude.{◌≡◌, ◌↔◌, ◌≤◌, ◌+◌, length, find};
 ghost use Rattle.std.specs.Str.{bytes_eq};
 ghost use Rattle.std.specs.List.{prefix_len};
 ghost use Rattle.cc_lexer.specs.Spelling.{is_word_byte, keyword_text};
+ghost use Rattle.cc_lexer.specs.Next.{class_at, IsNext};
+ghost use Rattle.cc_lexer.specs.declared.class.Class.{Class};
 ghost use Rattle.cc_lexer.specs.declared.token.Keyword.{Keyword};
 
-use crate::token::Keyword;
+use crate::fault::{LexFault, place};
+use crate::piece::Piece;
+use crate::token::{Keyword, TokenKind};
+
+/// The most bytes of a name.
+const MAX_NAME: usize = 255;
 
 const KEYWORDS: [Keyword; 25] = [
     Keyword::Atomic,
@@ -34,8 +41,28 @@ const KEYWORDS: [Keyword; 25] = [
     Keyword::While,
 ];
 
+/// A keyword or a name.
+pub fn word(before: &[u8], here: &[u8]) -> Result<Piece, LexFault>
+    requires short { length before.now + length here.now ≤ 1048576 }
+    requires class { class_at here.now ≡ Class.Letter }
+    ensures { IsNext before.now here.now result }
+{
+    let length = word_length(here);
+    match keyword(&here[..length]) {
+        Some(word) => Ok(Piece::Token {
+            kind: TokenKind::Word(word),
+            length,
+        }),
+        None if length > MAX_NAME => Err(LexFault::LongName { at: place(before) }),
+        None => Ok(Piece::Token {
+            kind: TokenKind::Name,
+            length,
+        }),
+    }
+}
+
 /// The text of a keyword.
-pub fn keyword_text(word: Keyword) -> &'static [u8]
+fn keyword_text(word: Keyword) -> &'static [u8]
     ensures { result.now ≡ keyword_text word }
 {
     match word {
@@ -68,7 +95,7 @@ pub fn keyword_text(word: Keyword) -> &'static [u8]
 }
 
 /// The keyword with this text.
-pub fn keyword(text: &[u8]) -> Option<Keyword>
+fn keyword(text: &[u8]) -> Option<Keyword>
     ensures { (word : Keyword) → (result ≡ Some word) ↔ (text.now ≡ keyword_text word) }
 {
     first_with_text(&KEYWORDS, text)
@@ -82,7 +109,7 @@ fn first_with_text(words: &[Keyword], text: &[u8]) -> Option<Keyword>
 }
 
 /// How many bytes of a word stand at the front.
-pub fn word_length(here: &[u8]) -> usize
+fn word_length(here: &[u8]) -> usize
     ensures { result ≡ prefix_len is_word_byte here.now }
 {
     here.iter().take_while(|b| is_word_byte(**b)).count()
