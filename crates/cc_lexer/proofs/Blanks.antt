@@ -51,7 +51,8 @@ single_feed here v = ap (λ t. count_by is_line_feed (take 1 t)) v.parts ∙ go 
     go true = refl
     go false = refl
 
-none_counted : (xs : Text) → list_all (λ b. not (is_line_feed b)) xs ≡ true → count_by is_line_feed xs ≡ 0
+-- no line feed is counted where none is
+pub none_counted : (xs : Text) → list_all (λ b. not (is_line_feed b)) xs ≡ true → count_by is_line_feed xs ≡ 0
 none_counted [] h = refl
 none_counted (x ∷ xs) h =
     let w = and_parts (not (is_line_feed x)) (list_all (λ b. not (is_line_feed b)) xs) h in

@@ -9,5 +9,6 @@ pub mod Views
 pub mod Apart
 pub mod MarkFronts
 pub mod Strings
+pub mod Steps
 pub mod Fronts
 pub mod Longest

@@ -40,7 +40,7 @@ longest_of here kind n e within spelled most = record {
 
 -- ---- words
 
-word_passes : (text : Text) → is_word text ≡ true → list_all is_word_byte text ≡ true
+pub word_passes : (text : Text) → is_word text ≡ true → list_all is_word_byte text ≡ true
 word_passes [] h = refl
 word_passes (b ∷ bs) h = let w = and_parts (is_letter b) (list_all is_word_byte bs) h in and_from (is_word_byte b) _ (or_left (is_letter b) (is_digit b) w.0) w.1
 

@@ -4,6 +4,7 @@
 mod blank;
 mod class;
 mod fault;
+mod lexer;
 mod mark;
 mod next;
 mod number;
@@ -13,4 +14,5 @@ mod token;
 mod word;
 
 pub use fault::LexFault;
+pub use lexer::{MAX_TEXT, lex};
 pub use token::{Keyword, Mark, Token, TokenKind};
