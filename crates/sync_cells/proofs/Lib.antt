@@ -1,0 +1,3 @@
+pub mod ChangedLists
+pub mod SlotLaws
+pub mod ShownLaws
