@@ -1,3 +1,4 @@
 pub mod ChangedLists
 pub mod SlotLaws
 pub mod ShownLaws
+pub mod CellLaws

@@ -69,18 +69,29 @@ assigned v (Plain w) = Plain v
 assigned v Empty = Full v
 assigned v (Full w) = Full w
 
+-- a slot: new; with a value; with one more waiter, behind the others; with no waiter
 abbrev pub unawaited : Cell → Slot
 unawaited c = record { cell = c; waiters = [] }
 
--- the store behind one call: the next object has these cells; a cell has a value; one more waits for a cell; nothing waits for a cell
+abbrev pub with_value : Value → Slot → Slot
+with_value v slot = record slot { cell = assigned v slot.cell }
+
+abbrev pub with_waiter : Waiter → Slot → Slot
+with_waiter w slot = record slot { waiters = slot.waiters ++ w ∷ [] }
+
+abbrev pub without_waiters : Slot → Slot
+without_waiters slot = record slot { waiters = [] }
+
+-- the store with one more object, of these cells
 abbrev pub after_make : Cells → List Cell → Cells
 after_make s cells = record { objects = s.objects ++ map unawaited cells ∷ []; made = s.made + length cells }
 
+-- the store behind a write, a park and a wake at a spot
 abbrev pub after_write : Cells → Spot → Value → Cells
-after_write s at v = change_slot s at (λ slot. record slot { cell = assigned v slot.cell })
+after_write s at v = change_slot s at (with_value v)
 
 abbrev pub after_park : Cells → Spot → Waiter → Cells
-after_park s at w = change_slot s at (λ slot. record slot { waiters = slot.waiters ++ w ∷ [] })
+after_park s at w = change_slot s at (with_waiter w)
 
 abbrev pub after_wake : Cells → Spot → Cells
-after_wake s at = change_slot s at (λ slot. record slot { waiters = [] })
+after_wake s at = change_slot s at without_waiters

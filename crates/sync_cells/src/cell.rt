@@ -3,6 +3,7 @@ ghost use Rattle.sync_cells.specs.Cells.{assigned, found, wrote};
 
 use global_ptr::Value;
 use std::alloc::AllocError;
+use std::mem::size_of;
 
 /// A place of an object, which holds a value.
 #[derive(Clone, Copy, Debug, PartialEq, Eq)]
@@ -14,6 +15,9 @@ pub enum Cell {
     /// A cell of a sync type that was assigned, which it is once.
     Full(Value),
 }
+
+// A million cells are to fit into 32 MiB.
+const _: () = prove!(size_of::<Cell>() <= 32);
 
 impl Cell {
     /// What a read of the cell finds.
