@@ -103,13 +103,13 @@ module _ (cs : List Cell) (es : List Extent) (q : ℕ → List Waiter) where
       → shown (cs ++ ds) (es ++ e ∷ []) q ≡ after_make (shown cs es q) ds
   shown-append ds e t s n none =
       let all : slots q 0 (cs ++ ds) ≡ slots q 0 cs ++ map unawaited ds
-          = slots-append q 0 cs ds ∙ ap (λ ss. slots q 0 cs ++ ss) (slots_unawaited q (0 + length cs) ds (λ k h. none k (omega arith))) in
+      = slots-append q 0 cs ds ∙ ap (λ ss. slots q 0 cs ++ ss) (slots_unawaited q (0 + length cs) ds (λ k h. none k (omega arith))) in
       let same : length (slots q 0 cs) ≡ length cs = length-slots q 0 cs in
       same_shown _ _ _ _
       (ap (λ xs. map (object xs) (es ++ e ∷ [])) all
-        ∙ map-append (object (slots q 0 cs ++ map unawaited ds)) es (e ∷ [])
-        ∙ rw (objects-append (slots q 0 cs) 0 es (length cs) (map unawaited ds) t (omega arith))
-          (ap (λ o. map (object (slots q 0 cs)) es ++ o ∷ []) (object_at_end (slots q 0 cs) e (map unawaited ds) (s ∙ sym same) (n ∙ sym (length-map ds unawaited)))))
+      ∙ map-append (object (slots q 0 cs ++ map unawaited ds)) es (e ∷ [])
+      ∙ rw (objects-append (slots q 0 cs) 0 es (length cs) (map unawaited ds) t (omega arith))
+      (ap (λ o. map (object (slots q 0 cs)) es ++ o ∷ []) (object_at_end (slots q 0 cs) e (map unawaited ds) (s ∙ sym same) (n ∙ sym (length-map ds unawaited)))))
       (length-append cs ds)
 
   pub laid_out-requeue : (p : ℕ) (r : ℕ → List Waiter) → IsLaidOut cs es q → p < length cs → length (r p) < 2 ^ 32 → ((k : ℕ) → k ≢ p → r k ≡ q k) → IsLaidOut cs es r

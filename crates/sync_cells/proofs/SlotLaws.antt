@@ -1,15 +1,14 @@
 -- The slots at places, and the objects that they make.
-use Rattle.std.proofs.Common.{◌≡◌, ◌≢◌, ℕ, zero, suc, ◌+◌, ◌-◌, ◌<◌, ◌≤◌, List, [], ◌∷◌, ◌++◌, map, length, take, drop, set, get_or, Option, Some, None, refl, ap, sym, ⊎_elim, ◌∙◌, if◌then◌else◌, arith}
+use Rattle.std.proofs.Common.{◌≡◌, ◌≢◌, ℕ, zero, suc, ◌+◌, ◌-◌, ◌<◌, ◌≤◌, List, [], ◌∷◌, ◌++◌, map, length, take, drop, set, get_or, Some, None, refl, ap, sym, ⊎_elim, ◌∙◌, if◌then◌else◌, arith}
 use Rattle.std.specs.Prelude.{slice_get, option_map, option_and_then}
 use Rattle.std.proofs.lemmas.List.{drop-append-le, take-append-le, drop_at, take_all, length-drop}
-use Rattle.std.proofs.lemmas.Option.{slice_get-map, unwrap_or-slice_get}
 use Rattle.std.proofs.lemmas.Bool.{lt-ltb, le-ltb, cases_lt}
 use Rattle.global_ptr.specs.declared.values.Waiter.{Waiter}
 use Rattle.sync_cells.specs.declared.cell.Cell.{Cell}
 use Rattle.sync_cells.specs.declared.layout.Extent.{Extent}
 use Rattle.sync_cells.specs.Cells.{Slot, change_item, unawaited}
 use Rattle.sync_cells.specs.Layout.{slots, object, Tiles, place_in}
-use Rattle.sync_cells.proofs.ChangedLists.{length-change_item, take-change_item, take_before_change, drop_behind_change, drop-change_item, get-drop, get-take, get_behind_take}
+use Rattle.sync_cells.proofs.ChangedLists.{take-change_item, take_before_change, drop_behind_change, drop-change_item, get-drop, get-take, get_behind_take}
 
 abbrev pub slot : List Waiter → Cell → Slot
 slot ws c = record { cell = c; waiters = ws }

@@ -1,5 +1,5 @@
 -- What contracts see of the cells of one processor.
-use Rattle.std.specs.Prelude.{ℕ, zero, suc, ◌+◌, List, [], ◌∷◌, ◌++◌, map, length, get_or, slice_get, Option, Some, None, option_map}
+use Rattle.std.specs.Prelude.{ℕ, zero, suc, ◌+◌, List, [], ◌∷◌, ◌++◌, map, length, get_or, slice_get, Option, Some, None}
 use Rattle.global_ptr.specs.declared.values.Spot.{Spot}
 use Rattle.global_ptr.specs.declared.values.Value.{Value}
 use Rattle.global_ptr.specs.declared.values.Waiter.{Waiter}

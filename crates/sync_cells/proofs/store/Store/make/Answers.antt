@@ -1,8 +1,7 @@
-use Rattle.std.proofs.Common.{◌≡◌, ◌≤◌, ◌<◌, ◌+◌, ◌++◌, vec_len, ℕ, List, [], ◌∷◌, take, replicate, ◌-◌, ap, sym, ◌∙◌, arith, length, Some, None, refl}
+use Rattle.std.proofs.Common.{◌≡◌, ◌≤◌, ◌+◌, ◌++◌, vec_len, ℕ, List, [], ◌∷◌, take, replicate, ◌-◌, ap, sym, ◌∙◌, arith, length, refl}
 use Rattle.std.proofs.lemmas.List.{take_all, length-replicate}
-use Rattle.sync_cells.specs.Cells.{found, wrote, after_make}
-use Rattle.sync_cells.specs.Layout.{place_of, queue}
-use Rattle.sync_cells.proofs.ShownLaws.{place_within, cell_there, cell_nowhere, waiters_there, waiters_nowhere, unchanged_nowhere, shown-write, shown-requeue, shown-append, laid_out-requeue, laid_out-append}
+use Rattle.sync_cells.specs.Cells.{after_make}
+use Rattle.sync_cells.proofs.ShownLaws.{shown-append, laid_out-append}
 use Rattle.sync_cells.proofs.store.Store.make.Goals as goal
 
 resized : {X : Type 0} (xs : List X) (m n k : ℕ) (x : X) → m ≡ length xs → n ≡ length xs → take (m + k) xs ++ replicate (m + k - n) x ≡ xs ++ replicate k x
@@ -32,4 +31,4 @@ pub returns-clause-made : goal.returns-clause-made
 returns-clause-made c =
     rw (cells_are c, objects_are c)
     (shown-append _ _ _ (replicate c.args.count c.args.cell) c.in_ok-extent.extent c.self.invariant.tiled (start_is c) (count_is c) c.self.invariant.awaited
-      ∙ ap (λ s. after_make s (replicate c.args.count c.args.cell)) c.self.view_is)
+    ∙ ap (λ s. after_make s (replicate c.args.count c.args.cell)) c.self.view_is)

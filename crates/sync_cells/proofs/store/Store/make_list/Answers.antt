@@ -1,8 +1,6 @@
-use Rattle.std.proofs.Common.{◌≡◌, ◌≤◌, ◌<◌, ◌+◌, ◌++◌, ℕ, List, [], ◌∷◌, ap, sym, ◌∙◌, arith, length, Some, None, refl}
-use Rattle.std.proofs.lemmas.List.{append-nil}
-use Rattle.sync_cells.specs.Cells.{found, wrote, after_make}
-use Rattle.sync_cells.specs.Layout.{place_of, queue}
-use Rattle.sync_cells.proofs.ShownLaws.{place_within, cell_there, cell_nowhere, waiters_there, waiters_nowhere, unchanged_nowhere, shown-write, shown-requeue, shown-append, laid_out-requeue, laid_out-append}
+use Rattle.std.proofs.Common.{◌≡◌, ◌++◌, [], ◌∷◌, ap, ◌∙◌, arith, length, refl}
+use Rattle.sync_cells.specs.Cells.{after_make}
+use Rattle.sync_cells.proofs.ShownLaws.{shown-append, laid_out-append}
 use Rattle.sync_cells.proofs.store.Store.make_list.Goals as goal
 
 -- the cells and the objects behind the call
@@ -26,4 +24,4 @@ pub returns-clause-made : goal.returns-clause-made
 returns-clause-made c =
     rw (cells_are c, objects_are c)
     (shown-append _ _ _ (c.args.cells.now) c.in_ok-extent.extent c.self.invariant.tiled (start_is c) (count_is c) c.self.invariant.awaited
-      ∙ ap (λ s. after_make s (c.args.cells.now)) c.self.view_is)
+    ∙ ap (λ s. after_make s (c.args.cells.now)) c.self.view_is)

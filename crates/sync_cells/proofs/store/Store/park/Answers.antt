@@ -1,8 +1,8 @@
-use Rattle.std.proofs.Common.{◌≡◌, ◌≤◌, ◌<◌, ◌+◌, ◌++◌, ◌^◌, ℕ, List, [], ◌∷◌, ap, sym, ◌∙◌, arith, length, Some, None, refl}
+use Rattle.std.proofs.Common.{◌≡◌, ◌<◌, ◌++◌, ◌^◌, [], ◌∷◌, ap, ◌∙◌, arith, length, Some, None}
 use Rattle.std.proofs.lemmas.List.{length_push}
-use Rattle.sync_cells.specs.Cells.{found, wrote, after_park}
+use Rattle.sync_cells.specs.Cells.{after_park}
 use Rattle.sync_cells.specs.Layout.{place_of, queue}
-use Rattle.sync_cells.proofs.ShownLaws.{place_within, cell_there, cell_nowhere, waiters_there, waiters_nowhere, unchanged_nowhere, shown-write, shown-requeue, shown-append, laid_out-requeue, laid_out-append}
+use Rattle.sync_cells.proofs.ShownLaws.{place_within, cell_nowhere, shown-requeue, laid_out-requeue}
 use Rattle.sync_cells.proofs.store.Store.park.Goals as goal
 
 pub unreachable-requires : goal.unreachable-requires
@@ -14,7 +14,7 @@ pub invariant_of-self-2 : goal.invariant_of-self-2
 invariant_of-self-2 c =
     let there : place_of c.self.inside.objects.items c.args.at ≡ Some c.in-Some.place = cc (c.deref.ensures.value) in
     let few : length (queue c.add.new.queues c.in-Some.place) < 2 ^ 32
-        = rw c.in_ok-add.ensures.ok.here (omega (arith, length_push (queue c.self.inside.waiting c.in-Some.place) c.args.waiter, c.in_ok-add.ensures.few)) in
+    = rw c.in_ok-add.ensures.ok.here (omega (arith, length_push (queue c.self.inside.waiting c.in-Some.place) c.args.waiter, c.in_ok-add.ensures.few)) in
     laid_out-requeue _ _ _ c.in-Some.place _ c.self.invariant (place_within _ _ c.args.at _ c.self.invariant.tiled there) few c.in_ok-add.ensures.ok.there
 
 pub returns-clause-ok : goal.returns-clause-ok

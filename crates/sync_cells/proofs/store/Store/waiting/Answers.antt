@@ -1,8 +1,6 @@
-use Rattle.std.proofs.Common.{◌≡◌, ◌≤◌, ◌<◌, ◌+◌, ◌++◌, ℕ, List, [], ap, sym, ◌∙◌, arith, length, Some, None, refl}
-use Rattle.std.proofs.lemmas.List.{append-nil}
-use Rattle.sync_cells.specs.Cells.{found, wrote, after_make, waiters_at}
-use Rattle.sync_cells.specs.Layout.{place_of, queue}
-use Rattle.sync_cells.proofs.ShownLaws.{place_within, cell_there, cell_nowhere, waiters_there, waiters_nowhere, unchanged_nowhere, shown-write, shown-requeue, shown-append, laid_out-requeue, laid_out-append}
+use Rattle.std.proofs.Common.{◌≡◌, ap, sym, ◌∙◌, length, Some, None}
+use Rattle.sync_cells.specs.Layout.{place_of}
+use Rattle.sync_cells.proofs.ShownLaws.{waiters_there, waiters_nowhere}
 use Rattle.sync_cells.proofs.store.Store.waiting.Goals as goal
 
 pub returns-in-Some : goal.returns-in-Some

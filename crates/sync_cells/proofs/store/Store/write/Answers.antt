@@ -1,8 +1,8 @@
-use Rattle.std.proofs.Common.{◌≡◌, ◌≤◌, ◌<◌, ◌+◌, ◌++◌, ℕ, List, [], set, ap, sym, ◌∙◌, arith, length, Some, None, refl}
+use Rattle.std.proofs.Common.{◌≡◌, set, ap, sym, ◌∙◌, arith, Some, None, refl}
 use Rattle.std.proofs.lemmas.Option.{slice_get_read}
-use Rattle.sync_cells.specs.Cells.{found, wrote, after_write}
+use Rattle.sync_cells.specs.Cells.{wrote, after_write}
 use Rattle.sync_cells.specs.Layout.{place_of, queue, shown}
-use Rattle.sync_cells.proofs.ShownLaws.{place_within, cell_there, cell_nowhere, waiters_there, waiters_nowhere, unchanged_nowhere, shown-write, shown-requeue, shown-append, laid_out-requeue, laid_out-append}
+use Rattle.sync_cells.proofs.ShownLaws.{place_within, cell_there, cell_nowhere, unchanged_nowhere, shown-write}
 use Rattle.sync_cells.proofs.store.Store.write.Goals as goal
 
 pub returns-in_default-clause-answer : goal.returns-in_default-clause-answer
