@@ -1,6 +1,5 @@
-use Rattle.std.proofs.Common.{◌≡◌, ◌≢◌, ap, sym, ◌∙◌, Some, None, refl}
-use Rattle.std.proofs.lemmas.Result.{IfOk-weaker, on_ok_weaker, on_err_weaker}
-use Rattle.atomic_objects.specs.HeldObjects.{answer, after_enter, after_wait, after_leave, next}
+use Rattle.std.proofs.lemmas.Result.{on_ok_weaker, on_err_weaker}
+use Rattle.atomic_objects.specs.HeldObjects.{after_wait}
 use Rattle.atomic_objects.proofs.HeldLaws.{get_shown, shown_same, shown_changed}
 use Rattle.atomic_objects.proofs.locks.Locks.wait.Goals as goal
 
