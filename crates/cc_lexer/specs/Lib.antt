@@ -5,3 +5,4 @@ pub mod Faults
 pub mod Lexemes
 pub mod Next
 pub mod String
+pub mod Keywords

@@ -4,6 +4,7 @@
 mod blank;
 mod class;
 mod fault;
+pub mod laws;
 mod lexer;
 mod mark;
 mod next;
