@@ -36,9 +36,9 @@ inside_len-append (b ∷ []) rest h i = after_plain b rest h ∙ ap suc (halted 
 inside_len-append (b ∷ c ∷ bs) rest h i = go (b == 92) refl h (λ k. inside_len-append bs rest k i) (λ k. inside_len-append (c ∷ bs) rest k i)
   where
     go : (x : Bool) → (b == 92) ≡ x → cond x (is_escape c && is_inside bs) (is_plain b && is_inside (c ∷ bs)) ≡ true
-       → (is_inside bs ≡ true → inside_len (bs ++ rest) ≡ length bs)
-       → (is_inside (c ∷ bs) ≡ true → inside_len (c ∷ (bs ++ rest)) ≡ suc (length bs))
-       → inside_len (b ∷ c ∷ (bs ++ rest)) ≡ suc (suc (length bs))
+        → (is_inside bs ≡ true → inside_len (bs ++ rest) ≡ length bs)
+        → (is_inside (c ∷ bs) ≡ true → inside_len (c ∷ (bs ++ rest)) ≡ suc (length bs))
+        → inside_len (b ∷ c ∷ (bs ++ rest)) ≡ suc (suc (length bs))
     go true e f k l = let w = and_parts (is_escape c) (is_inside bs) f in rw (e, w.0) (ap (λ n. suc (suc n)) (k w.1))
     go false e f k l = let w = and_parts (is_plain b) (is_inside (c ∷ bs)) f in rw (w.0, e) (ap suc (l w.1))
 
@@ -76,9 +76,9 @@ is_inside-append (x ∷ []) (y ∷ b) h i = rw (h, plain_no_backslash x h) i
 is_inside-append (x ∷ y ∷ a) b h i = go (x == 92) refl h (λ k. is_inside-append a b k i) (λ k. is_inside-append (y ∷ a) b k i)
   where
     go : (z : Bool) → (x == 92) ≡ z → cond z (is_escape y && is_inside a) (is_plain x && is_inside (y ∷ a)) ≡ true
-       → (is_inside a ≡ true → is_inside (a ++ b) ≡ true)
-       → (is_inside (y ∷ a) ≡ true → is_inside (y ∷ (a ++ b)) ≡ true)
-       → is_inside (x ∷ y ∷ (a ++ b)) ≡ true
+        → (is_inside a ≡ true → is_inside (a ++ b) ≡ true)
+        → (is_inside (y ∷ a) ≡ true → is_inside (y ∷ (a ++ b)) ≡ true)
+        → is_inside (x ∷ y ∷ (a ++ b)) ≡ true
     go true e f k l = let w = and_parts (is_escape y) (is_inside a) f in rw (e, w.0) (k w.1)
     go false e f k l = let w = and_parts (is_plain x) (is_inside (y ∷ a)) f in rw (w.0, e) (l w.1)
 

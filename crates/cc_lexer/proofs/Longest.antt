@@ -26,14 +26,16 @@ use Rattle.cc_lexer.proofs.Fronts.{front_passes, front_most}
 
 -- the longest token, where no token of this class is longer
 pub longest_of : (here : Text) (kind : TokenKind) (n : ℕ) → class_at here ≡ class_of kind → n ≤ length here → Spells kind (take n here)
-  → ((other : TokenKind) (m : ℕ) → m ≤ length here → Spells other (take m here) → class_of kind ≡ class_of other → m ≤ n) → IsLongest here kind n
+    → ((other : TokenKind) (m : ℕ) → m ≤ length here → Spells other (take m here) → class_of kind ≡ class_of other → m ≤ n) → IsLongest here kind n
 longest_of here kind n e within spelled most = record {
   stands = record { within = within; spelled = spelled; no_line_comment = no_line_comment here (class_of kind) e (apart_line kind); no_comment = no_comment here (class_of kind) e (apart kind) };
-  longest = λ other m s. most other m s.within s.spelled (sym e ∙ stands_class here other m s) }
+  longest = λ other m s. most other m s.within s.spelled (sym e ∙ stands_class here other m s);
+}
   where
     apart_line : (k : TokenKind) → class_of k ≢ class.LineComment
     apart_line Name h = cc
     apart_line _ h = cc
+
     apart : (k : TokenKind) → class_of k ≢ class.Comment
     apart Name h = cc
     apart _ h = cc

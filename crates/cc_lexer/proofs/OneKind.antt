@@ -53,12 +53,13 @@ find_in_filter {A} p q (x ∷ xs) h = go (p x) refl (q x) refl (find_in_filter p
 keyword_of_length : (text : Text) → find (λ word. bytes_eq (keyword_text word) text) (keywords_of_length (length text)) ≡ keyword_of text
 keyword_of_length text =
     find_in_filter (λ word. bytes_eq (keyword_text word) text) (λ word. length (keyword_text word) == length text) keywords
-        (λ word e. eq-eqb (length (keyword_text word)) (length text) (ap length ((bytes_eq-Decides (keyword_text word) text).0 e)))
+    (λ word e. eq-eqb (length (keyword_text word)) (length text) (ap length ((bytes_eq-Decides (keyword_text word) text).0 e)))
 
 keyword_found : (text : Text) (word : Keyword) → (keyword_of text ≡ Some word) ↔ (text ≡ keyword_text word)
 keyword_found text word = (
   (λ h. sym ((bytes_eq-Decides (keyword_text word) text).0 (find_passes (λ w. bytes_eq (keyword_text w) text) keywords word h))),
-  (λ h. ap keyword_of h ∙ keyword_of_text word))
+  (λ h. ap keyword_of h ∙ keyword_of_text word),
+)
 
 pub found_among : (text : Text) (words : List Keyword) (r : Option Keyword) → words ≡ keywords_of_length (length text) → r ≡ find (λ word. bytes_eq (keyword_text word) text) words → (word : Keyword) → (r ≡ Some word) ↔ (text ≡ keyword_text word)
 found_among text words r w e word =

@@ -49,6 +49,7 @@ token_size here kind n h = (some n h.stands.spelled, h.stands.within)
     empty Str s = let e = spelled_class Str [] s in cc
     empty (Word w) s = let e = spelled_class (Word w) [] s in cc
     empty (Marked m) s = let e = spelled_class (Marked m) [] s in cc
+
     some : (m : ℕ) → Spells kind (take m here) → 0 < m
     some zero s = absurd (empty kind s)
     some (suc m) s = omega arith
@@ -79,7 +80,7 @@ inside_feeds (b ∷ []) h = and_from (no_feed b) true (plain_byte b h) refl
 inside_feeds (b ∷ c ∷ bs) h = go (b == 92) refl h (λ k. inside_feeds bs k) (λ k. inside_feeds (c ∷ bs) k)
   where
     go : (x : Bool) → (b == 92) ≡ x → cond x (is_escape c && is_inside bs) (is_plain b && is_inside (c ∷ bs)) ≡ true
-       → (is_inside bs ≡ true → list_all no_feed bs ≡ true) → (is_inside (c ∷ bs) ≡ true → list_all no_feed (c ∷ bs) ≡ true) → list_all no_feed (b ∷ c ∷ bs) ≡ true
+        → (is_inside bs ≡ true → list_all no_feed bs ≡ true) → (is_inside (c ∷ bs) ≡ true → list_all no_feed (c ∷ bs) ≡ true) → list_all no_feed (b ∷ c ∷ bs) ≡ true
     go true e f k l =
         let w = and_parts (is_escape c) (is_inside bs) f in
         and_from (no_feed b) _ (ap no_feed (eqb-true b 92 e)) (and_from (no_feed c) _ (escape_byte c w.0) (k w.1))
@@ -143,7 +144,8 @@ module _ (text : Text) where
         record {
           within = (token_fits kind n h).1;
           cut = token so_far.cut (record { in_order = omega arith; longest = longest; within_limits = limits; line = so_far.line_is });
-          line_is = omega (arith, so_far.line_is, more n, spelled_feeds kind (take n here) h.0.stands.spelled) }
+          line_is = omega (arith, so_far.line_is, more n, spelled_feeds kind (take n here) h.0.stands.spelled);
+        }
 
     pub all_read : length text ≤ 1048576 → IsNext before here (Ok piece.End) → Cut text tokens
     all_read short h =

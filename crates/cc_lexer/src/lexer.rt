@@ -4,13 +4,12 @@ ghost use Rattle.cc_lexer.specs.Faults.{FirstFault};
 ghost use Rattle.cc_lexer.specs.declared.token.Token.{Token};
 ghost use Rattle.cc_lexer.specs.declared.fault.LexFault.{LexFault};
 
-use ccpp_edge::List;
-use std::alloc::Global;
-
 use crate::fault::LexFault;
 use crate::next::next;
 use crate::piece::Piece;
 use crate::token::Token;
+use ccpp_edge::List;
+use std::alloc::Global;
 
 /// The most bytes of a text.
 pub const MAX_TEXT: usize = 1_048_576;

@@ -52,7 +52,9 @@ fn decimal_value(digits: &[u8]) -> Option<i64>
 {
     let mut value: u64 = 0;
     for digit in digits {
-        value = value.checked_mul(10)?.checked_add(u64::from(*digit - b'0'))?;
+        value = value
+            .checked_mul(10)?
+            .checked_add(u64::from(*digit - b'0'))?;
     }
     i64::try_from(value).ok()
 }

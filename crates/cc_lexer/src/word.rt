@@ -115,7 +115,10 @@ fn keywords_of_length(length: usize) -> &'static [Keyword]
 fn first_with_text(words: &[Keyword], text: &[u8]) -> Option<Keyword>
     ensures { result ≡ find (λ word. bytes_eq (keyword_text word) text.now) words.now }
 {
-    words.iter().copied().find(|word| keyword_text(*word) == text)
+    words
+        .iter()
+        .copied()
+        .find(|word| keyword_text(*word) == text)
 }
 
 /// How many bytes of a word stand at the front.

@@ -9,4 +9,5 @@ loop-n-preserved c =
     let unit = rw take_rest at c.unit_length.ensures.value in
     record {
       within = omega (arith, rw take_rest at c.unit_length.ensures.within, length-drop c.loop-n.length here);
-      inside = rw unit (inside_more here c.loop-n.length c.loop-n.invariant.inside) }
+      inside = rw unit (inside_more here c.loop-n.length c.loop-n.invariant.inside);
+    }
