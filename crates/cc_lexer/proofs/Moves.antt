@@ -10,7 +10,7 @@ use Rattle.cc_lexer.specs.declared.token.TokenKind.TheVariants.{Name, Int, Str, 
 use Rattle.cc_lexer.specs.declared.fault.LexFault.{LexFault}
 use Rattle.cc_lexer.specs.declared.fault.LexFault.TheVariants.{BadByte, OpenComment, OpenString, LongName, NumberTooLarge}
 use Rattle.cc_lexer.specs.Spelling.{Text, is_inside, is_plain, is_letter, is_digit, Spells}
-use Rattle.cc_lexer.specs.Cut.{Begins, HasNoPlace, is_blank, is_line_feed, line_length, is_indent, IsFirstPlace, IsBlank, byte, line_comment, comment, include_line, Stands, IsLongest, NoneStands, IsWithinLimits}
+use Rattle.cc_lexer.specs.Cut.{Begins, HasNoPlace, is_blank, is_line_feed, line_length, is_indent, IsFirstPlace, IsBlank, byte, line_comment, comment, include_line, Stands, IsLongest, NoneStands, IsWithinLimits, longest_name, largest_number}
 use Rattle.cc_lexer.specs.Faults.{goes_on, is_line_end, BreaksOff, IsFault, open_comment, open_string, long_name, large_number, bad_inside, bad_byte}
 use Rattle.cc_lexer.specs.declared.class.Class.{Class}
 use Rattle.cc_lexer.specs.declared.class.Class.TheVariants as class
@@ -69,8 +69,8 @@ after_inside at n (b ∷ bs) = cond (b == 34) (takes Str (n + 2)) (cond (is_line
 
 -- what is next where this is the longest token
 abbrev pub Judged : ℕ → TokenKind → ℕ → Move → Type 0
-Judged at Name n m = ((n ≤ 255) × (m ≡ takes Name n)) ⊎ ((255 < n) × (m ≡ fails (LongName at)))
-Judged at (Int v) n m = ((v ≤ℤ pos 9223372036854775807) × (m ≡ takes (Int v) n)) ⊎ ((pos 9223372036854775807 <ℤ v) × (m ≡ fails (NumberTooLarge at)))
+Judged at Name n m = ((n ≤ longest_name) × (m ≡ takes Name n)) ⊎ ((longest_name < n) × (m ≡ fails (LongName at)))
+Judged at (Int v) n m = ((v ≤ℤ pos largest_number) × (m ≡ takes (Int v) n)) ⊎ ((pos largest_number <ℤ v) × (m ≡ fails (NumberTooLarge at)))
 Judged at kind n m = m ≡ takes kind n
 
 module _ (before here : Text) where

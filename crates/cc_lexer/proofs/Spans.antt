@@ -9,7 +9,7 @@ use Rattle.cc_lexer.specs.declared.token.Token.{Token}
 use Rattle.cc_lexer.specs.declared.token.TokenKind.{TokenKind}
 use Rattle.cc_lexer.specs.declared.token.TokenKind.TheVariants.{Name, Int}
 use Rattle.cc_lexer.specs.Spelling.{Text, Spells, decimal_value}
-use Rattle.cc_lexer.specs.Cut.{IsTokenOf, IsWithinLimits, IsCutTo, nothing, blank, token, Cut}
+use Rattle.cc_lexer.specs.Cut.{IsTokenOf, IsWithinLimits, IsCutTo, longest_name, largest_number, nothing, blank, token, Cut}
 use Rattle.cc_lexer.specs.Lexemes.{token_text, IsSpelled, replaced_escapes, unescaped}
 use Rattle.cc_lexer.proofs.Steps.{blank_size, token_size}
 
@@ -63,13 +63,13 @@ module _ (text : Text) where
   pub cut_count : (tokens : List Token) → Cut text tokens → length tokens ≤ length text
   cut_count tokens h = (spans h.whole).count
 
-  pub name_length : (t : Token) → IsSpelled text t → t.kind ≡ Name → (0 < length (token_text text t)) × (length (token_text text t) ≤ 255)
+  pub name_length : (t : Token) → IsSpelled text t → t.kind ≡ Name → (0 < length (token_text text t)) × (length (token_text text t) ≤ longest_name)
   name_length t h e = let l = h.limits in (omega (arith, h.some, text_length t h.within), rw e at l)
 
-  pub number_value : (t : Token) (value : ℤ) → IsSpelled text t → t.kind ≡ Int value → (value ≡ pos (decimal_value (token_text text t))) × (decimal_value (token_text text t) ≤ 9223372036854775807)
+  pub number_value : (t : Token) (value : ℤ) → IsSpelled text t → t.kind ≡ Int value → (value ≡ pos (decimal_value (token_text text t))) × (decimal_value (token_text text t) ≤ largest_number)
   number_value t value h e =
       let s : Spells (Int value) (token_text text t) = subst (λ k. Spells k (token_text text t)) e h.spelled in
-      let l : value ≤ℤ pos 9223372036854775807 = subst (λ k. IsWithinLimits k (length (token_text text t))) e h.limits in
+      let l : value ≤ℤ pos largest_number = subst (λ k. IsWithinLimits k (length (token_text text t))) e h.limits in
       (s.1, omega (arith, ints, s.1, l))
 
 pub unescaped_inside : (inside : Text) → unescaped (codes "\"" ++ inside ++ codes "\"") ≡ replaced_escapes inside

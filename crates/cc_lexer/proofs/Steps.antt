@@ -17,7 +17,7 @@ use Rattle.cc_lexer.specs.declared.token.TokenKind.TheVariants.{Name, Int, Str, 
 use Rattle.cc_lexer.specs.declared.fault.LexFault.{LexFault}
 use Rattle.cc_lexer.specs.declared.fault.LexFault.TheVariants.{Memory}
 use Rattle.cc_lexer.specs.Spelling.{Text, is_letter, is_word_byte, is_digit, is_word, is_number, is_inside, is_plain, is_escape, keyword_text, mark_text, Spells}
-use Rattle.cc_lexer.specs.Cut.{Begins, is_line_feed, line_length, IsBlank, byte, line_comment, comment, include_line, IsLongest, IsWithinLimits, IsTokenOf, IsCutTo, nothing, blank, token, Cut}
+use Rattle.cc_lexer.specs.Cut.{Begins, is_line_feed, line_length, IsBlank, byte, line_comment, comment, include_line, IsLongest, IsWithinLimits, IsTokenOf, IsCutTo, nothing, blank, token, longest_text, Cut}
 use Rattle.cc_lexer.specs.Faults.{IsFault, FirstFault, at_place}
 use Rattle.cc_lexer.specs.Next.{IsNext}
 use Rattle.cc_lexer.proofs.Classes.{spelled_class, word_is}
@@ -147,12 +147,12 @@ module _ (text : Text) where
           line_is = omega (arith, so_far.line_is, more n, spelled_feeds kind (take n here) h.0.stands.spelled);
         }
 
-    pub all_read : length text ≤ 1048576 → IsNext before here (Ok piece.End) → Cut text tokens
+    pub all_read : length text ≤ longest_text → IsNext before here (Ok piece.End) → Cut text tokens
     all_read short h =
         let e : at ≡ length text = omega (arith, so_far.within, ap length h, here_length) in
         record { not_too_long = short; whole = subst (λ k. IsCutTo text k tokens) e so_far.cut }
 
-    pub fault_read : length text ≤ 1048576 → (fault : LexFault) → IsNext before here (Err fault) → FirstFault text fault
+    pub fault_read : length text ≤ longest_text → (fault : LexFault) → IsNext before here (Err fault) → FirstFault text fault
     fault_read short fault h = at_place short so_far.cut (subst (λ t. IsFault (take at text) t fault) ahead (subst (λ t. IsFault t here fault) behind h))
 
 -- ---- the answer

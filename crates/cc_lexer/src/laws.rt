@@ -2,7 +2,7 @@
 
 ghost use Rattle.std.specs.Prelude.{◌≡◌, ℕ, ◌<◌, ◌≤◌, List, length, pos, codes, ◌++◌, ℤ, All, AllPairs};
 ghost use Rattle.cc_lexer.specs.Spelling.{decimal_value};
-ghost use Rattle.cc_lexer.specs.Cut.{Cut};
+ghost use Rattle.cc_lexer.specs.Cut.{Cut, longest_name, largest_number};
 ghost use Rattle.cc_lexer.specs.Faults.{FirstFault};
 ghost use Rattle.cc_lexer.specs.Lexemes.{IsSpelled, token_text, replaced_escapes, unescaped};
 ghost use Rattle.cc_lexer.specs.declared.token.Token.{Token};
@@ -34,13 +34,13 @@ pub fn spans()
 /// A name has 1 to 255 bytes.
 pub fn names()
     ensures { (text : List ℕ) (token : Token) → IsSpelled text token → token.kind ≡ TokenKind.Name
-        → (0 < length (token_text text token)) × (length (token_text text token) ≤ 255) }
+        → (0 < length (token_text text token)) × (length (token_text text token) ≤ longest_name) }
 {}
 
 /// The value of a number is that of its digits in base ten, and at most 9,223,372,036,854,775,807.
 pub fn numbers()
     ensures { (text : List ℕ) (token : Token) (value : ℤ) → IsSpelled text token → token.kind ≡ TokenKind.Int value
-        → (value ≡ pos (decimal_value (token_text text token))) × (decimal_value (token_text text token) ≤ 9223372036854775807) }
+        → (value ≡ pos (decimal_value (token_text text token))) × (decimal_value (token_text text token) ≤ largest_number) }
 {}
 
 /// The bytes of a string are those between its quotes, each escape replaced.

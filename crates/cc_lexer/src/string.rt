@@ -2,6 +2,7 @@ ghost use Rattle.std.specs.Prelude.{◌≡◌, ◌≤◌, ◌+◌, length, take,
 ghost use Rattle.cc_lexer.specs.Spelling.{is_plain, is_escape, is_inside};
 ghost use Rattle.cc_lexer.specs.Faults.{goes_on};
 ghost use Rattle.cc_lexer.specs.String.{unit_length};
+ghost use Rattle.cc_lexer.specs.Cut.{longest_text};
 ghost use Rattle.cc_lexer.specs.Next.{class_at, IsNext};
 ghost use Rattle.cc_lexer.specs.declared.class.Class.{Class};
 
@@ -11,7 +12,7 @@ use crate::token::TokenKind;
 
 /// A string.
 pub fn string(before: &[u8], here: &[u8]) -> Result<Piece, LexFault>
-    requires short { length before.now + length here.now ≤ 1048576 }
+    requires short { length before.now + length here.now ≤ longest_text }
     requires class { class_at here.now ≡ Class.Quote }
     ensures { IsNext before.now here.now result }
 {

@@ -3,6 +3,7 @@ ghost use Rattle.std.specs.Str.{bytes_eq};
 ghost use Rattle.std.specs.List.{prefix_len};
 ghost use Rattle.cc_lexer.specs.Spelling.{is_word_byte, keyword_text};
 ghost use Rattle.cc_lexer.specs.Keywords.{keywords_of_length};
+ghost use Rattle.cc_lexer.specs.Cut.{longest_text};
 ghost use Rattle.cc_lexer.specs.Next.{class_at, IsNext};
 ghost use Rattle.cc_lexer.specs.declared.class.Class.{Class};
 ghost use Rattle.cc_lexer.specs.declared.token.Keyword.{Keyword};
@@ -16,7 +17,7 @@ const MAX_NAME: usize = 255;
 
 /// A keyword or a name.
 pub fn word(before: &[u8], here: &[u8]) -> Result<Piece, LexFault>
-    requires short { length before.now + length here.now ≤ 1048576 }
+    requires short { length before.now + length here.now ≤ longest_text }
     requires class { class_at here.now ≡ Class.Letter }
     ensures { IsNext before.now here.now result }
 {

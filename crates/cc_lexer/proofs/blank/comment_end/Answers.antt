@@ -13,5 +13,5 @@ loop-at-preserved c = record {
   line_feeds = elim c.if-inside-at-eq10.branch [ then-inside-at-eq10 w ↦ grind (arith, common_steps, nat_tests) | else-inside-at-eq10 w ↦ grind (arith, common_steps, nat_tests) ];
 }
 
-pub returns-clause-open : goal.returns-clause-open
-returns-clause-open c = nowhere (codes "*/") c.args.inside.now (omega arith) (λ k b. omega (arith, c.loop-at.invariant.none_before k b))
+pub returns-clause-not_closed : goal.returns-clause-not_closed
+returns-clause-not_closed c = nowhere (codes "*/") c.args.inside.now (omega arith) (λ k b. omega (arith, c.loop-at.invariant.none_before k b))
