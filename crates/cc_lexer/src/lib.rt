@@ -4,15 +4,20 @@
 mod blank;
 mod class;
 mod fault;
+pub mod laws;
 mod lexer;
 mod mark;
 mod next;
 mod number;
 mod piece;
 mod string;
+#[cfg(test)]
+mod tests;
 mod token;
+mod unescape;
 mod word;
 
 pub use fault::LexFault;
 pub use lexer::{MAX_TEXT, lex};
 pub use token::{Keyword, Mark, Token, TokenKind};
+pub use unescape::unescaped;
