@@ -1,0 +1,9 @@
+//! The command `ccpp`: what its words ask for, what it writes, and the status with which it ends.
+#![tactic(auto)]
+
+mod command;
+mod status;
+mod word;
+
+pub use status::Status;
+pub use word::Word;
