@@ -1,1 +1,5 @@
+mod Maps
+mod Runs
+mod Statements
+mod Sums
 mod WordsLaws

@@ -1,2 +1,4 @@
+pub mod Early
 pub mod Status
+pub mod Values
 pub mod Words

@@ -2,6 +2,9 @@
 #![tactic(auto)]
 
 mod command;
+mod early;
+mod operator;
+mod outcome;
 mod status;
 mod word;
 

@@ -1,0 +1,95 @@
+-- What the sums of an early program give, and what the program does.
+use Rattle.std.specs.Prelude.{ℕ, List, [], ◌∷◌, ◌++◌, ℤ, pos, ◌+ℤ◌, ◌-ℤ◌, ◌*ℤ◌, Option, Some, None, if◌then◌else◌}
+use Rattle.global_ptr.specs.declared.ends.FaultKind.{FaultKind}
+use Rattle.global_ptr.specs.declared.ends.FaultKind.TheVariants.{Overflow}
+use Rattle.global_ptr.specs.declared.ends.Standing.{Standing}
+use Rattle.global_ptr.specs.declared.ends.Standing.TheVariants.{Done, Fault}
+use Rattle.cc_core.specs.Effects.{printed}
+use Rattle.cc_core.specs.Steps.{ints}
+use Rattle.ccpp_top.specs.Early.{parts_of}
+use Rattle.cc_ops.specs.Values.{Result, Gives, Fails, on_gives}
+use Rattle.cc_ops.specs.Operators.{fits}
+use Rattle.cc_ops.specs.declared.operator.Op.{Op}
+use Rattle.cc_ops.specs.declared.operator.Op.TheVariants as op
+use Rattle.ccpp_top.specs.declared.operator.Operator.{Operator}
+use Rattle.ccpp_top.specs.declared.operator.Operator.TheVariants.{Add, Subtract, Multiply}
+use Rattle.ccpp_top.specs.declared.outcome.Outcome.{Outcome}
+use Rattle.ccpp_top.specs.declared.early.Early.{Early}
+use Rattle.ccpp_top.specs.declared.early.Statement.{Statement}
+use Rattle.ccpp_top.specs.declared.early.StatementKind.{StatementKind}
+use Rattle.ccpp_top.specs.declared.early.StatementKind.TheVariants as statement
+use Rattle.ccpp_top.specs.declared.early.Item.{Item}
+use Rattle.ccpp_top.specs.declared.early.Item.TheVariants as item
+use Rattle.ccpp_top.specs.declared.early.Sign.{Sign}
+use Rattle.ccpp_top.specs.declared.early.Sign.TheVariants.{Plus, Minus}
+use Rattle.ccpp_top.specs.declared.early.Sum.{Sum}
+use Rattle.ccpp_top.specs.declared.early.Summand.{Summand}
+use Rattle.ccpp_top.specs.declared.early.Product.{Product}
+
+abbrev pub exact : Operator → ℤ → ℤ → ℤ
+exact Add a b = a +ℤ b
+exact Subtract a b = a -ℤ b
+exact Multiply a b = a *ℤ b
+
+-- the number where it has 64 bits
+abbrev pub fitted : ℤ → Result ℤ
+fitted n = if fits n then Gives n else Fails Overflow
+
+abbrev pub operate : Operator → ℤ → ℤ → Result ℤ
+operate o a b = fitted (exact o a b)
+
+abbrev pub as_option : {A : Type 0} → Result A → Option A
+as_option (Gives a) = Some a
+as_option (Fails kind) = None
+
+abbrev pub combine : Operator → Result ℤ → Result ℤ → Result ℤ
+combine o r q = on_gives r (λ a. on_gives q (operate o a))
+
+abbrev pub sign_operator : Sign → Operator
+sign_operator Plus = Add
+sign_operator Minus = Subtract
+
+abbrev pub multiplied : Result ℤ → List ℤ → Result ℤ
+multiplied r [] = r
+multiplied r (n ∷ ns) = multiplied (combine Multiply r (Gives n)) ns
+
+abbrev pub product_value : Product → Result ℤ
+product_value p = multiplied (Gives p.first) p.rest
+
+abbrev pub totalled : Result ℤ → List Summand → Result ℤ
+totalled r [] = r
+totalled r (s ∷ ss) = totalled (combine (sign_operator s.sign) r (product_value s.product)) ss
+
+abbrev pub sum_value : Sum → Result ℤ
+sum_value s = totalled (product_value s.first) s.rest
+
+-- the values of the sums among the items
+abbrev pub item_values : List Item → Result (List ℤ)
+item_values [] = Gives []
+item_values (item.Value s ∷ is) = on_gives (sum_value s) (λ v. on_gives (item_values is) (λ vs. Gives (v ∷ vs)))
+item_values (item.Str bytes ∷ is) = item_values is
+item_values (item.Endl ∷ is) = item_values is
+
+abbrev pub fault_at : ℕ → FaultKind → Standing
+fault_at line kind = Fault (record { kind = kind; line = line })
+
+abbrev pub returned : List ℕ → ℕ → Result ℤ → Outcome
+returned out line (Gives v) = record { output = out; standing = Done v }
+returned out line (Fails kind) = record { output = out; standing = fault_at line kind }
+
+-- a print writes all its items, or nothing where a sum is at a fault
+abbrev pub printed_then : List ℕ → ℕ → List Item → Result (List ℤ) → (List ℕ → Outcome) → Outcome
+printed_then out line items (Gives vs) go = go (out ++ printed (parts_of items) (ints vs))
+printed_then out line items (Fails kind) go = record { output = out; standing = fault_at line kind }
+
+abbrev pub done_by : List ℕ → ℕ → StatementKind → (List ℕ → Outcome) → Outcome
+done_by out line (statement.Print first rest) go = printed_then out line (first ∷ rest) (item_values (first ∷ rest)) go
+done_by out line (statement.Return s) go = returned out line (sum_value s)
+
+-- what the statements do after this output
+abbrev pub outcome_from : List ℕ → List Statement → Outcome
+outcome_from out [] = record { output = out; standing = Done (pos 0) }
+outcome_from out (s ∷ ss) = done_by out s.line s.kind (λ out'. outcome_from out' ss)
+
+abbrev pub outcome : Early → Outcome
+outcome early = outcome_from [] early.statements
