@@ -20,7 +20,7 @@ use Rattle.ccpp_top.specs.declared.early.Item.{Item}
 use Rattle.ccpp_top.specs.declared.early.Item.TheVariants as item
 use Rattle.ccpp_top.specs.declared.early.Sum.{Sum}
 use Rattle.ccpp_top.specs.Early.{sum_term, parts_of, printed_terms, kind_stmt, stmts_of, core_of}
-use Rattle.ccpp_top.specs.Values.{sum_value, item_values, fault_at, returned, printed_then, done_by, outcome_from, outcome}
+use Rattle.ccpp_top.specs.Values.{sum_value, item_values, fault_at, or_fault, done_by, outcome_from, outcome}
 use Rattle.ccpp_top.proofs.Runs.{ComesTo, Ends, longer, ends_prints, ends_leaves}
 use Rattle.ccpp_top.proofs.Sums.{Context, inside, term, Evaluates, sum_cost, sum_evaluates}
 
@@ -90,7 +90,7 @@ module _ (early : Early) where
   statement_context : (line : ℕ) (ss : Stmts) → Context core (stmt line) (before line ss) (behind ss)
   statement_context line ss = record { same = λ x. at_statement line ss (stmt line x) }
 
-  print_goes : (line : ℕ) (is : List Item) (r : Result (List ℤ)) → EvaluateAll core line (printed_terms is) r (items_cost is) → (ss : Stmts) (out : List ℕ) (c : ℕ) (go : List ℕ → Outcome) → ((out' : List ℕ) → Ends core out' (left_at ss) c (go out').output (go out').standing) → let end = printed_then out line is r go in Ends core out (on_ready (stmt line ([], Print (parts_of is) (printed_terms is))) (before line ss) (behind ss)) (suc (items_cost is) + c) end.output end.standing
+  print_goes : (line : ℕ) (is : List Item) (r : Result (List ℤ)) → EvaluateAll core line (printed_terms is) r (items_cost is) → (ss : Stmts) (out : List ℕ) (c : ℕ) (go : List ℕ → Outcome) → ((out' : List ℕ) → Ends core out' (left_at ss) c (go out').output (go out').standing) → let end = or_fault out line r (λ vs. go (out ++ printed (parts_of is) (ints vs))) in Ends core out (on_ready (stmt line ([], Print (parts_of is) (printed_terms is))) (before line ss) (behind ss)) (suc (items_cost is) + c) end.output end.standing
   print_goes line is (Fails kind) items ss out c go h =
       longer core out _ (items_cost is) (suc (items_cost is) + c) _ _ (omega arith)
       (inside core line (terms core line) (stmt line) (λ ts. ([], Print (parts_of is) ts)) (λ vs. does line [] (Prints (parts_of is) vs)) (before line ss) (behind ss) (printed_terms is) out (items_cost is) out (fault_at line kind) (λ ts. refl) (statement_context line ss)
@@ -104,7 +104,7 @@ module _ (early : Early) where
       (ends_prints core out line (parts_of is) (ints vs) (λ y. before line ss ([], Empty)) c end.output end.standing
       (subst (λ n. Ends core out' n c end.output end.standing) (sym ((statement_context line ss).same ([], Empty))) (h out')))))
 
-  return_goes : (line : ℕ) (e : Sum) (r : Result ℤ) → Evaluates core line (sum_term e) r (sum_cost e) → (ss : Stmts) (out : List ℕ) → let end = returned out line r in Ends core out (on_ready (stmt line ([], Return (sum_term e))) (before line ss) (behind ss)) (suc (sum_cost e)) end.output end.standing
+  return_goes : (line : ℕ) (e : Sum) (r : Result ℤ) → Evaluates core line (sum_term e) r (sum_cost e) → (ss : Stmts) (out : List ℕ) → let end = or_fault out line r (λ v. record { output = out; standing = Done v }) in Ends core out (on_ready (stmt line ([], Return (sum_term e))) (before line ss) (behind ss)) (suc (sum_cost e)) end.output end.standing
   return_goes line e (Fails kind) sum ss out =
       longer core out _ (sum_cost e) (suc (sum_cost e)) _ _ (omega arith)
       (inside core line (term core line) (stmt line) (λ t. ([], Return t)) (λ v. Asks line Leaves (λ x. just ([], Left v))) (before line ss) (behind ss) (sum_term e) out (sum_cost e) out (fault_at line kind) (λ t. refl) (statement_context line ss)

@@ -1,3 +1,4 @@
+pub mod Code
 pub mod Early
 pub mod Status
 pub mod Values

@@ -73,18 +73,15 @@ item_values (item.Endl ∷ is) = item_values is
 abbrev pub fault_at : ℕ → FaultKind → Standing
 fault_at line kind = Fault (record { kind = kind; line = line })
 
-abbrev pub returned : List ℕ → ℕ → Result ℤ → Outcome
-returned out line (Gives v) = record { output = out; standing = Done v }
-returned out line (Fails kind) = record { output = out; standing = fault_at line kind }
+-- goes on with what is given, or ends at the fault, with this output
+abbrev pub or_fault : {A : Type 0} → List ℕ → ℕ → Result A → (A → Outcome) → Outcome
+or_fault out line (Gives a) go = go a
+or_fault out line (Fails kind) go = record { output = out; standing = fault_at line kind }
 
--- a print writes all its items, or nothing where a sum is at a fault
-abbrev pub printed_then : List ℕ → ℕ → List Item → Result (List ℤ) → (List ℕ → Outcome) → Outcome
-printed_then out line items (Gives vs) go = go (out ++ printed (parts_of items) (ints vs))
-printed_then out line items (Fails kind) go = record { output = out; standing = fault_at line kind }
-
+-- a print writes all its items, or none where a sum is at a fault
 abbrev pub done_by : List ℕ → ℕ → StatementKind → (List ℕ → Outcome) → Outcome
-done_by out line (statement.Print first rest) go = printed_then out line (first ∷ rest) (item_values (first ∷ rest)) go
-done_by out line (statement.Return s) go = returned out line (sum_value s)
+done_by out line (statement.Print first rest) go = or_fault out line (item_values (first ∷ rest)) (λ vs. go (out ++ printed (parts_of (first ∷ rest)) (ints vs)))
+done_by out line (statement.Return s) go = or_fault out line (sum_value s) (λ v. record { output = out; standing = Done v })
 
 -- what the statements do after this output
 abbrev pub outcome_from : List ℕ → List Statement → Outcome

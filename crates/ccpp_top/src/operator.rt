@@ -1,5 +1,7 @@
 ghost use Rattle.std.specs.Prelude.{◌≡◌};
-ghost use Rattle.ccpp_top.specs.Values.{operate, as_option};
+ghost use Rattle.ccpp_top.specs.Values.{operate, as_option, sign_operator};
+
+use crate::early::Sign;
 
 /// An operator of the early form.
 #[derive(Clone, Copy)]
@@ -10,6 +12,16 @@ pub(crate) enum Operator {
 }
 
 impl Operator {
+    /// The operator that a sign stands for.
+    pub(crate) fn of(sign: Sign) -> Operator
+        ensures { result ≡ sign_operator sign }
+    {
+        match sign {
+            Sign::Plus => Operator::Add,
+            Sign::Minus => Operator::Subtract,
+        }
+    }
+
     /// The result, and `None` exactly where it has more than 64 bits.
     pub(crate) fn apply(self, left: i64, right: i64) -> Option<i64>
         ensures { result ≡ as_option (operate self left right) }
