@@ -4,8 +4,10 @@
 mod code;
 mod command;
 mod early;
+mod machine;
 mod operator;
 mod outcome;
+mod stack;
 mod status;
 mod word;
 
