@@ -1,3 +1,4 @@
+mod Codes
 mod Maps
 mod Runs
 mod Statements
