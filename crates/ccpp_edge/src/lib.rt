@@ -3,11 +3,17 @@
 #![tactic(auto)]
 
 mod boxed;
+mod gate;
 mod items;
+mod shelf;
+mod sink;
 mod text;
 
 pub use boxed::Boxed;
+pub use gate::{Gate, OpenGate};
 pub use items::{Bytes, List};
+pub use shelf::{Shelf, ShelfFault};
+pub use sink::{Sink, SinkFault};
 pub use text::Text;
 
 /// Want of memory. It may come from every call that grows something, and no contract says when.
