@@ -1,5 +1,5 @@
 -- A count of faults, which stops at the last value of a `u64`.
-use Rattle.std.specs.Prelude.{◌≡◌, ◌⊎◌, ℕ, ◌+◌, ◌<◌, min}
+use Rattle.std.specs.Prelude.{◌≡◌, ◌⊎◌, ℕ, ◌+◌, ◌<◌, ◌==◌, if◌then◌else◌}
 
 abbrev pub last_count : ℕ
 last_count = 18446744073709551615
@@ -8,6 +8,6 @@ last_count = 18446744073709551615
 abbrev pub Rose : ℕ → ℕ → Type 0
 Rose old new = (old < new) ⊎ (new ≡ last_count)
 
--- the count after one more, which stays at the last value
+-- the count after one more, which stays at its last value
 abbrev pub raised : ℕ → ℕ
-raised count = min (count + 1) last_count
+raised count = if count == last_count then last_count else count + 1

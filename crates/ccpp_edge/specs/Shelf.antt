@@ -18,8 +18,8 @@ abbrev pub Lacks : Option Files → List ℕ → Type 0
 Lacks held name = IsSomeAnd held (λ files. files name ≡ None)
 
 -- as before but for one name: told as before, and the same under each other name
-abbrev pub SameButFor : List ℕ → Option Files → Option Files → Type 0
-SameButFor name None None = Unit {0}
-SameButFor name None (Some after) = ⊥
-SameButFor name (Some before) None = ⊥
-SameButFor name (Some before) (Some after) = (other : List ℕ) → other ≢ name → after other ≡ before other
+abbrev pub SameButFor : Option Files → Option Files → List ℕ → Type 0
+SameButFor None None name = Unit {0}
+SameButFor None (Some after) name = ⊥
+SameButFor (Some before) None name = ⊥
+SameButFor (Some before) (Some after) name = (other : List ℕ) → other ≢ name → after other ≡ before other

@@ -3,9 +3,9 @@ use Rattle.std.specs.Prelude.{◌≡◌, ℕ, List, ◌++◌, Option}
 use Rattle.std.specs.Option.{option_map}
 
 -- these bytes stand behind those that were written before, told as before
-abbrev pub Appends : List ℕ → Option (List ℕ) → Option (List ℕ) → Type 0
-Appends bytes old new = new ≡ option_map (λ before. before ++ bytes) old
+abbrev pub Appends : Option (List ℕ) → Option (List ℕ) → List ℕ → Type 0
+Appends old new bytes = new ≡ option_map (λ before. before ++ bytes) old
 
 -- a front of the bytes was appended, and the rest was not
-abbrev pub AppendsFront : List ℕ → Option (List ℕ) → Option (List ℕ) → Type 0
-AppendsFront bytes old new = (front : List ℕ) × ((rest : List ℕ) × (bytes ≡ front ++ rest)) × Appends front old new
+abbrev pub AppendsFront : Option (List ℕ) → Option (List ℕ) → List ℕ → Type 0
+AppendsFront old new bytes = (front : List ℕ) × ((rest : List ℕ) × (bytes ≡ front ++ rest)) × Appends old new front

@@ -3,8 +3,12 @@
 #![tactic(auto)]
 
 mod boxed;
+mod calls;
 mod gate;
 mod items;
+mod mem_shelf;
+mod mem_sink;
+mod real;
 mod shelf;
 mod sink;
 mod text;
@@ -12,6 +16,9 @@ mod text;
 pub use boxed::Boxed;
 pub use gate::{Gate, OpenGate};
 pub use items::{Bytes, List};
+pub use mem_shelf::{MemShelf, NamedBytes};
+pub use mem_sink::MemSink;
+pub use real::{RealShelf, RealSink};
 pub use shelf::{Shelf, ShelfFault};
 pub use sink::{Sink, SinkFault};
 pub use text::Text;

@@ -45,7 +45,7 @@ pub trait Shelf {
     /// the name holds. Want of memory leaves all as it was.
     fn write(&mut self, name: &str, bytes: &[u8]) -> Result<(), ShelfFault>
         ensures bytes { OnOk result (HoldsIfTold (held self.new) name.now bytes.now) }
-        ensures others { SameButFor name.now (held self.old) (held self.new) }
+        ensures others { SameButFor (held self.old) (held self.new) name.now }
         ensures memory { result ≡ Err ShelfFault.Memory → held self.new ≡ held self.old }
         ensures failed { result ≡ Err ShelfFault.Failed → Rose (faults self.old) (faults self.new) }
         ensures never_absent { result ≢ Err ShelfFault.Absent }

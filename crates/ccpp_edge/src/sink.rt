@@ -32,8 +32,8 @@ pub trait Sink {
 
     /// Appends the bytes. Where the sink failed, a front of them was appended. Want of memory appends nothing.
     fn write_all(&mut self, bytes: &[u8]) -> Result<(), SinkFault>
-        ensures ok { OnOk result (Appends bytes.now (written self.old) (written self.new)) }
-        ensures front { result ≡ Err SinkFault.Failed → AppendsFront bytes.now (written self.old) (written self.new) }
+        ensures ok { OnOk result (Appends (written self.old) (written self.new) bytes.now) }
+        ensures front { result ≡ Err SinkFault.Failed → AppendsFront (written self.old) (written self.new) bytes.now }
         ensures failed { result ≡ Err SinkFault.Failed → Rose (faults self.old) (faults self.new) }
         ensures memory { result ≡ Err SinkFault.Memory → written self.new ≡ written self.old }
         ensures faults { faults self.old ≤ faults self.new };
