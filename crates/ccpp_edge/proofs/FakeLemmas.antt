@@ -55,4 +55,4 @@ module _ (files : List NamedBytes) (file : NamedBytes) where
   pub bytes_under-push_other : (other : List ℕ) → other ≢ file.name → bytes_under (files ++ file ∷ []) other ≡ bytes_under files other
   bytes_under-push_other other differs =
       rw (find-append (λ f. bytes_eq f.name other) files (file ∷ []), other_name file.name file.name other bears_name differs)
-        (ap (option_map (λ f. f.bytes)) (or_none (find (λ f. bytes_eq f.name other) files)))
+      (ap (option_map (λ f. f.bytes)) (or_none (find (λ f. bytes_eq f.name other) files)))

@@ -21,10 +21,11 @@ appends_kept (Some a) (Some b) (Some c) front one kept = kept ∙ one
 
 -- after one more write, which took so many bytes
 pub Wrote-more : (old mid new : Option (List ℕ)) (bytes rest : List ℕ) (taken : ℕ) → Wrote old mid bytes rest → Appends mid new (take taken rest) → Wrote old new bytes (drop taken rest)
-Wrote-more old mid new bytes rest taken (front, split, wrote) more =
-    (front ++ take taken rest,
-      split ∙ ap (λ xs. front ++ xs) (sym (take-append-drop taken rest)) ∙ sym (append_assoc front (take taken rest) (drop taken rest)),
-      appends_both old mid new front (take taken rest) wrote more)
+Wrote-more old mid new bytes rest taken (front, split, wrote) more = (
+  front ++ take taken rest,
+  split ∙ ap (λ xs. front ++ xs) (sym (take-append-drop taken rest)) ∙ sym (append_assoc front (take taken rest) (drop taken rest)),
+  appends_both old mid new front (take taken rest) wrote more,
+)
 
 -- after a write that failed
 pub Wrote-kept : (old mid new : Option (List ℕ)) (bytes rest : List ℕ) → Wrote old mid bytes rest → Keeps mid new → Wrote old new bytes rest

@@ -23,9 +23,9 @@ next_fails calls = list_any (λ number. number == calls.made) calls.failing
 -- after one more call, which is a fault where it is to fail
 abbrev pub counted : Calls → Calls
 counted calls = record calls {
-    made = raised calls.made;
-    faults = if next_fails calls then raised calls.faults else calls.faults;
-  }
+  made = raised calls.made;
+  faults = if next_fails calls then raised calls.faults else calls.faults;
+}
 
 -- no two files have one name
 abbrev pub NamesDiffer : List NamedBytes → Type 0

@@ -3,6 +3,5 @@ pub mod formers
 -- What a shelf holds, what was written to a sink, and the counts of their faults.
 pub mod Count
 pub mod Fake
-pub mod Real
 pub mod Shelf
 pub mod Sink

@@ -25,11 +25,9 @@ pub struct RealShelf<'a, R> {
 }
 
 impl<'a, R: Files> RealShelf<'a, R> {
-    ghost use Rattle.ccpp_edge.specs.Real.{shelf_faults};
-
     /// The files that the runtime reaches.
     pub fn new(alloc: Global, files: &'a R) -> RealShelf<'a, R>
-        ensures { shelf_faults result ≡ 0 }
+        ensures { ⟦<RealShelf<'a, R> as Shelf>⟧.faults result ≡ 0 }
     {
         RealShelf {
             alloc,
@@ -77,11 +75,9 @@ pub struct RealSink<'a, P> {
 }
 
 impl<'a, P: Print> RealSink<'a, P> {
-    ghost use Rattle.ccpp_edge.specs.Real.{sink_faults};
-
     /// What the runtime prints to.
     pub fn new(output: &'a P) -> RealSink<'a, P>
-        ensures { sink_faults result ≡ 0 }
+        ensures { ⟦<RealSink<'a, P> as Sink>⟧.faults result ≡ 0 }
     {
         RealSink { output, faults: 0 }
     }
@@ -118,11 +114,7 @@ impl From<SystemFailed> for SinkFault {
 }
 
 /// The bytes that the reader has left.
-fn read_whole<F: Read>(
-    reader: &mut F,
-    alloc: Global,
-    faults: &mut u64,
-) -> Result<Bytes, ShelfFault>
+fn read_whole<F: Read>(reader: &mut F, alloc: Global, faults: &mut u64) -> Result<Bytes, ShelfFault>
     ensures whole { IfOk result (λ bytes. IfSome (F.remaining reader.old) (λ left. bytes ≡ left)) }
     ensures failed { result ≡ Err ShelfFault.Failed → Rose faults.old faults.new }
     ensures never_absent { result ≢ Err ShelfFault.Absent }
@@ -134,7 +126,7 @@ fn read_whole<F: Read>(
         match reader.read(&mut piece) {
             Ok(0) => return Ok(bytes),
             Ok(taken) => bytes.extend_from_slice(&piece[..taken])?,
-            Err(error) => pass_interruption(&error, faults)?,
+            Err(error) => count_failure(&error, faults)?,
         }
     }
     raise(faults);
@@ -142,11 +134,7 @@ fn read_whole<F: Read>(
 }
 
 /// Hands all bytes to the writer, in as many calls as it wants.
-fn write_whole<W: Write>(
-    writer: &mut W,
-    bytes: &[u8],
-    faults: &mut u64,
-) -> Result<(), SystemFailed>
+fn write_whole<W: Write>(writer: &mut W, bytes: &[u8], faults: &mut u64) -> Result<(), SystemFailed>
     ensures whole { OnOk result (Appends (W.contents writer.old) (W.contents writer.new) bytes.now) }
     ensures failed { OnErr result (Rose faults.old faults.new) }
     ensures faults { faults.old ≤ faults.new }
@@ -159,15 +147,15 @@ fn write_whole<W: Write>(
         match writer.write(rest) {
             Ok(0) => break,
             Ok(taken) => rest = &rest[taken..],
-            Err(error) => pass_interruption(&error, faults)?,
+            Err(error) => count_failure(&error, faults)?,
         }
     }
     raise(faults);
     Err(SystemFailed)
 }
 
-/// Counts a call that failed. One that was interrupted may be made again.
-fn pass_interruption(error: &io::Error, faults: &mut u64) -> Result<(), SystemFailed>
+/// Counts a call of the system that failed. One that was interrupted may be made again.
+fn count_failure(error: &io::Error, faults: &mut u64) -> Result<(), SystemFailed>
     ensures exact { faults.new ≡ raised faults.old }
     ensures rose { Rose faults.old faults.new }
     ensures faults { faults.old ≤ faults.new }
