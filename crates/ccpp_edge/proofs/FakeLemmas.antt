@@ -1,9 +1,9 @@
 -- What a look-up by name finds after a write.
-use Rattle.std.proofs.Common.{◌≡◌, ◌≢◌, ◌<◌, ℕ, ◌+◌, Bool, true, false, Option, Some, None, List, [], ◌∷◌, ◌++◌, length, refl, sym, ◌∙◌, ap, arith, slice_set, slice_index_or, bytes_eq, position}
+use Rattle.std.proofs.Common.{◌≡◌, ◌≢◌, ℕ, ◌+◌, Bool, true, false, Option, Some, None, List, [], ◌∷◌, ◌++◌, length, refl, sym, ap, arith, slice_set, bytes_eq, position}
 use Rattle.std.specs.List.{position_or_len, find}
 use Rattle.std.specs.Option.{option_map, option_or}
 use Rattle.std.specs.Prelude.{cond, nat_lt, not}
-use Rattle.std.proofs.lemmas.List.Folds.{find-set, find_past, find_at, find-append}
+use Rattle.std.proofs.lemmas.List.Folds.{find-set, find_past, find-append}
 use Rattle.std.proofs.lemmas.List.Sums.{position_or_len_is}
 use Rattle.std.proofs.lemmas.List.Quantifiers.{position-Some}
 use Rattle.std.proofs.lemmas.Slice.Eq.{bytes_eq-Decides}

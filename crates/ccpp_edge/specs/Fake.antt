@@ -1,5 +1,5 @@
 -- A shelf and a sink in memory, of whose calls some are to fail. This project's own.
-use Rattle.std.specs.Prelude.{◌≡◌, ◌≢◌, ◌==◌, ℕ, Bool, List, Option, bytes_eq, if◌then◌else◌}
+use Rattle.std.specs.Prelude.{◌≢◌, ◌==◌, ℕ, Bool, List, Option, bytes_eq, if◌then◌else◌}
 use Rattle.std.specs.List.{AllPairs, find, list_any}
 use Rattle.std.specs.Option.{option_map}
 use Rattle.ccpp_edge.specs.Count.{raised}
