@@ -1,5 +1,7 @@
+pub mod Answers
 pub mod Code
 pub mod Early
+pub mod Grammar
 pub mod Machine
 pub mod Status
 pub mod Values

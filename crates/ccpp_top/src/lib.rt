@@ -1,6 +1,7 @@
 //! The command `ccpp`: what its words ask for, what it writes, and the status with which it ends.
 #![tactic(auto)]
 
+mod answer;
 mod code;
 mod command;
 mod early;

@@ -1,6 +1,8 @@
 ghost use Rattle.std.specs.Prelude.{◌≡◌};
 ghost use Rattle.ccpp_top.specs.Status.{number_of};
 
+use global_ptr::Standing;
+
 /// How a call of `ccpp` ended. The numbers are the exit statuses of the program.
 #[derive(Clone, Copy, Debug, PartialEq, Eq)]
 pub enum Status {
@@ -36,5 +38,21 @@ impl Status {
         ensures { result ≡ number_of self }
     {
         self as u8
+    }
+}
+
+impl From<Standing> for Status {
+    ghost use Rattle.std.specs.Prelude.{◌≡◌};
+    ghost use Rattle.ccpp_top.specs.Status.{status_of};
+
+    ghost from_gives = { λ standing status. status ≡ status_of standing };
+
+    fn from(standing: Standing) -> Status {
+        match standing {
+            Standing::Done(_) => Status::Done,
+            Standing::Blocked(_) => Status::Blocked,
+            Standing::Fault(_) => Status::ProgramFault,
+            Standing::Limit(_) => Status::Limit,
+        }
     }
 }
