@@ -22,7 +22,7 @@ use Rattle.ccpp_top.specs.declared.early.Sum.{Sum}
 use Rattle.ccpp_top.specs.declared.early.Summand.{Summand}
 use Rattle.ccpp_top.specs.declared.early.Product.{Product}
 use Rattle.ccpp_top.specs.Early as early_spec
-use Rattle.ccpp_top.specs.Values.{sign_operator, operate, combine, multiplied, product_value, totalled, sum_value, item_values, or_fault, done_by, outcome_from, outcome}
+use Rattle.ccpp_top.specs.Outcome.{sign_operator, operate, combine, multiplied, product_value, totalled, sum_value, item_values, or_fault, done_by, outcome_from, outcome}
 use Rattle.ccpp_top.specs.Code.{Code, factors_code, product_code, summands_code, sum_code, item_code, items_code, parts_of, core_parts, kind_code, statement_code, statements_code, code_of, executed}
 
 -- values put on a stack one after another

@@ -21,7 +21,7 @@ use Rattle.ccpp_top.specs.declared.early.Sum.{Sum}
 use Rattle.ccpp_top.specs.declared.operator.Operator.{Operator}
 use Rattle.ccpp_top.specs.declared.operator.Operator.TheVariants as operator
 use Rattle.ccpp_top.specs.Early.{times, plus, op_of, product_term, sum_term}
-use Rattle.ccpp_top.specs.Values.{operate, fitted, exact, combine, multiplied, product_value, totalled, sum_value, sign_operator}
+use Rattle.ccpp_top.specs.Outcome.{operate, fitted, exact, combine, multiplied, product_value, totalled, sum_value, sign_operator, product_steps, summands_steps, sum_steps}
 use Rattle.ccpp_top.proofs.Runs.{Ends, longer, ends_computes, ends_fails}
 
 -- parts in parts
@@ -54,16 +54,11 @@ computed operator.Add a b = number_is (a +ℤ b)
 computed operator.Subtract a b = number_is (a -ℤ b)
 computed operator.Multiply a b = number_is (a *ℤ b)
 
--- the number of steps: one for each operator
-abbrev pub product_cost : Product → ℕ
-product_cost m = length m.rest
-
-abbrev pub summands_cost : List Summand → ℕ
-summands_cost [] = 0
-summands_cost (s ∷ ss) = suc (product_cost s.product) + summands_cost ss
-
-abbrev pub sum_cost : Sum → ℕ
-sum_cost s = product_cost s.first + summands_cost s.rest
+module _ (p : Program) where
+  -- a part in its context
+  pub inside : {V A W B : Type 0} (step : A → Next V A) (outer : B → Next W B) (F : A → B) (g : V → Next W B) (K : B → Term) (rest : W → Next Value Term) (a : A) (out : List ℕ) (b : ℕ) (output : List ℕ) (standing : Standing) → ((a' : A) → outer (F a') ≡ on_ready (step a') F g) → Context p outer K rest → (Context p step (λ a'. K (F a')) (λ v. on_ready (g v) K rest) → Ends p out (on_ready (step a) (λ a'. K (F a')) (λ v. on_ready (g v) K rest)) b output standing) → Ends p out (on_ready (on_ready (step a) F g) K rest) b output standing
+  inside step outer F g K rest a out b output standing h x go =
+      subst (λ n. Ends p out n b output standing) (sym (on_ready_twice (step a) F g K rest)) (go (within p step outer F g K rest h x))
 
 module _ (p : Program) (line : ℕ) where
   -- a term of main, outside of which it is at K and goes on with rest
@@ -78,32 +73,28 @@ module _ (p : Program) (line : ℕ) where
   pushed : (n : ℤ) → Evaluates (Push (IntC n)) (Gives n) 0
   pushed n K rest x out c output standing h = longer p out (rest (Int n)) c (0 + c) output standing (omega arith) h
 
-  pub inside : {V A W B : Type 0} (step : A → Next V A) (outer : B → Next W B) (F : A → B) (g : V → Next W B) (K : B → Term) (rest : W → Next Value Term) (a : A) (out : List ℕ) (b : ℕ) (output : List ℕ) (standing : Standing) → ((a' : A) → outer (F a') ≡ on_ready (step a') F g) → Context p outer K rest → (Context p step (λ a'. K (F a')) (λ v. on_ready (g v) K rest) → Ends p out (on_ready (step a) (λ a'. K (F a')) (λ v. on_ready (g v) K rest)) b output standing) → Ends p out (on_ready (on_ready (step a) F g) K rest) b output standing
-  inside step outer F g K rest a out b output standing h x go =
-      subst (λ n. Ends p out n b output standing) (sym (on_ready_twice (step a) F g K rest)) (go (within p step outer F g K rest h x))
-
   -- the step of an operator, or its fault
   operated : (o : Operator) (v w : ℤ) (r : Result ℤ) → operate o v w ≡ r → (t u : Term) (b c : ℕ) → Evaluates t (Gives v) b → Evaluates u (Gives w) c → Evaluates (Binary (operator_op o) t u) r (b + suc c)
   operated o v w (Fails kind) e t u b c f g = λ K rest x out.
       longer p out _ (b + (c + 0)) (b + suc c) _ _ (omega arith)
-      (inside term term _ _ K rest t out (b + (c + 0)) _ _ (λ a. refl) x (λ x'. f _ _ x' out (c + 0) _ _
-      (inside term term _ _ K rest u out (c + 0) _ _ (λ a. refl) x (λ x''. g _ _ x'' out 0 _ _
+      (inside p term term _ _ K rest t out (b + (c + 0)) _ _ (λ a. refl) x (λ x'. f _ _ x' out (c + 0) _ _
+      (inside p term term _ _ K rest u out (c + 0) _ _ (λ a. refl) x (λ x''. g _ _ x'' out 0 _ _
       (ends_fails p out line (operator_op o) (Int v ∷ Int w ∷ []) _ kind (computed o v w ∙ ap (λ r'. on_gives r' (λ z. Gives (Int z))) e))))))
   operated o v w (Gives z) e t u b c f g = λ K rest x out d output standing h.
       longer p out _ (b + (c + suc d)) (b + suc c + d) _ _ (omega arith)
-      (inside term term _ _ K rest t out (b + (c + suc d)) _ _ (λ a. refl) x (λ x'. f _ _ x' out (c + suc d) _ _
-      (inside term term _ _ K rest u out (c + suc d) _ _ (λ a. refl) x (λ x''. g _ _ x'' out (suc d) _ _
+      (inside p term term _ _ K rest t out (b + (c + suc d)) _ _ (λ a. refl) x (λ x'. f _ _ x' out (c + suc d) _ _
+      (inside p term term _ _ K rest u out (c + suc d) _ _ (λ a. refl) x (λ x''. g _ _ x'' out (suc d) _ _
       (ends_computes p out line (operator_op o) (Int v ∷ Int w ∷ []) (λ y. K (Val (first y.values))) (Int z) d output standing (computed o v w ∙ ap (λ r'. on_gives r' (λ z'. Gives (Int z'))) e)
       (subst (λ n. Ends p out n d output standing) (sym (x.same (Val (Int z)))) h))))))
 
   -- an operator: its parts, and then its own step or fault
   binary : (o : Operator) (t u : Term) (r q : Result ℤ) (b c : ℕ) → Evaluates t r b → Evaluates u q c → Evaluates (Binary (operator_op o) t u) (combine o r q) (b + suc c)
   binary o t u (Fails kind) q b c f g = λ K rest x out.
-      longer p out _ b (b + suc c) _ _ (omega arith) (inside term term _ _ K rest t out b _ _ (λ a. refl) x (λ x'. f _ _ x' out))
+      longer p out _ b (b + suc c) _ _ (omega arith) (inside p term term _ _ K rest t out b _ _ (λ a. refl) x (λ x'. f _ _ x' out))
   binary o t u (Gives v) (Fails kind) b c f g = λ K rest x out.
       longer p out _ (b + c) (b + suc c) _ _ (omega arith)
-      (inside term term _ _ K rest t out (b + c) _ _ (λ a. refl) x (λ x'. f _ _ x' out c _ _
-      (inside term term _ _ K rest u out c _ _ (λ a. refl) x (λ x''. g _ _ x'' out))))
+      (inside p term term _ _ K rest t out (b + c) _ _ (λ a. refl) x (λ x'. f _ _ x' out c _ _
+      (inside p term term _ _ K rest u out c _ _ (λ a. refl) x (λ x''. g _ _ x'' out))))
   binary o t u (Gives v) (Gives w) b c f g = operated o v w (operate o v w) refl t u b c f g
 
   signed : (g : Sign) (t u : Term) (r q : Result ℤ) (b c : ℕ) → Evaluates t r b → Evaluates u q c → Evaluates (Binary (op_of g) t u) (combine (sign_operator g) r q) (b + suc c)
@@ -117,18 +108,18 @@ module _ (p : Program) (line : ℕ) where
       subst (Evaluates (times t (n ∷ ns)) (multiplied r (n ∷ ns))) e
       (product_goes ns (Binary Mul t (Push (IntC n))) (combine operator.Multiply r (Gives n)) (b + suc 0) (binary operator.Multiply t (Push (IntC n)) r (Gives n) b 0 h (pushed n)))
 
-  product_evaluates : (m : Product) → Evaluates (product_term m) (product_value m) (product_cost m)
+  product_evaluates : (m : Product) → Evaluates (product_term m) (product_value m) (product_steps m)
   product_evaluates m =
       let e : 0 + length m.rest ≡ length m.rest = omega arith in
       subst (Evaluates (product_term m) (product_value m)) e (product_goes m.rest (Push (IntC m.first)) (Gives m.first) 0 (pushed m.first))
 
-  sum_goes : (ss : List Summand) (t : Term) (r : Result ℤ) (b : ℕ) → Evaluates t r b → Evaluates (plus t ss) (totalled r ss) (b + summands_cost ss)
+  sum_goes : (ss : List Summand) (t : Term) (r : Result ℤ) (b : ℕ) → Evaluates t r b → Evaluates (plus t ss) (totalled r ss) (b + summands_steps ss)
   sum_goes [] t r b h = let e : b ≡ b + 0 = omega arith in subst (Evaluates t r) e h
   sum_goes (s ∷ ss) t r b h =
-      let e : b + suc (product_cost s.product) + summands_cost ss ≡ b + summands_cost (s ∷ ss) = omega arith in
+      let e : b + suc (product_steps s.product) + summands_steps ss ≡ b + summands_steps (s ∷ ss) = omega arith in
       subst (Evaluates (plus t (s ∷ ss)) (totalled r (s ∷ ss))) e
-      (sum_goes ss (Binary (op_of s.sign) t (product_term s.product)) (combine (sign_operator s.sign) r (product_value s.product)) (b + suc (product_cost s.product))
-      (signed s.sign t (product_term s.product) r (product_value s.product) b (product_cost s.product) h (product_evaluates s.product)))
+      (sum_goes ss (Binary (op_of s.sign) t (product_term s.product)) (combine (sign_operator s.sign) r (product_value s.product)) (b + suc (product_steps s.product))
+      (signed s.sign t (product_term s.product) r (product_value s.product) b (product_steps s.product) h (product_evaluates s.product)))
 
-  pub sum_evaluates : (s : Sum) → Evaluates (sum_term s) (sum_value s) (sum_cost s)
-  sum_evaluates s = sum_goes s.rest (product_term s.first) (product_value s.first) (product_cost s.first) (product_evaluates s.first)
+  pub sum_evaluates : (s : Sum) → Evaluates (sum_term s) (sum_value s) (sum_steps s)
+  sum_evaluates s = sum_goes s.rest (product_term s.first) (product_value s.first) (product_steps s.first) (product_evaluates s.first)

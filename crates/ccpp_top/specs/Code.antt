@@ -20,7 +20,7 @@ use Rattle.ccpp_top.specs.declared.early.Item.TheVariants as item
 use Rattle.ccpp_top.specs.declared.early.Sum.{Sum}
 use Rattle.ccpp_top.specs.declared.early.Summand.{Summand}
 use Rattle.ccpp_top.specs.declared.early.Product.{Product}
-use Rattle.ccpp_top.specs.Values.{sign_operator, operate, or_fault}
+use Rattle.ccpp_top.specs.Outcome.{sign_operator, operate, or_fault}
 
 abbrev pub Code : Type 0
 Code = List Instr

@@ -4,5 +4,5 @@ pub mod Early
 pub mod Grammar
 pub mod Machine
 pub mod Status
-pub mod Values
+pub mod Outcome
 pub mod Words

@@ -20,8 +20,8 @@ impl Answer {
     pub(crate) fn line(alloc: Global, status: Status, line: &str) -> Result<Answer, Memory>
         ensures { IfOk result (λ answer. answer ≡ record { text = spec.line line.now; status = status }) }
     {
-        let mut text = Bytes::from_slice(alloc, line.as_bytes())?;
-        text.push(b'\n')?;
+        let mut text = Bytes::new(alloc);
+        push_line(&mut text, line)?;
         Ok(Answer { text, status })
     }
 
@@ -36,12 +36,20 @@ impl Answer {
         let mut text = output;
         end_line(&mut text)?;
         let ending = standing_text(alloc, standing)?;
-        text.extend_from_slice(format!(in alloc; "== {ending}\n== determinate\n")?.as_bytes())?;
+        push_line(&mut text, format!(in alloc; "== {ending}")?.as_str())?;
+        push_line(&mut text, "== determinate")?;
         Ok(Answer {
             text,
             status: Status::from(standing),
         })
     }
+}
+
+fn push_line(text: &mut Bytes, line: &str) -> Result<(), Memory>
+    ensures { OnOk result (text.new ≡ text.old ++ spec.line line.now) }
+{
+    text.extend_from_slice(line.as_bytes())?;
+    text.push(b'\n')
 }
 
 /// Ends the last line, if it is not ended.

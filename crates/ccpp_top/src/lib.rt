@@ -8,6 +8,7 @@ mod early;
 mod machine;
 mod operator;
 mod outcome;
+mod run;
 mod stack;
 mod status;
 mod word;

@@ -1,5 +1,5 @@
 ghost use Rattle.std.specs.Prelude.{◌≡◌};
-ghost use Rattle.ccpp_top.specs.Values.{operate, as_option, sign_operator};
+ghost use Rattle.ccpp_top.specs.Outcome.{operate, as_option, sign_operator};
 
 use crate::early::Sign;
 

@@ -1,5 +1,5 @@
--- What the sums of an early program give, and what the program does.
-use Rattle.std.specs.Prelude.{ℕ, List, [], ◌∷◌, ◌++◌, ℤ, pos, ◌+ℤ◌, ◌-ℤ◌, ◌*ℤ◌, Option, Some, None, if◌then◌else◌}
+-- What an early program does: the values of its sums, its output and its end, and in how many steps.
+use Rattle.std.specs.Prelude.{ℕ, suc, ◌+◌, List, [], ◌∷◌, ◌++◌, length, ℤ, pos, ◌+ℤ◌, ◌-ℤ◌, ◌*ℤ◌, Option, Some, None, if◌then◌else◌}
 use Rattle.global_ptr.specs.declared.ends.FaultKind.{FaultKind}
 use Rattle.global_ptr.specs.declared.ends.FaultKind.TheVariants.{Overflow}
 use Rattle.global_ptr.specs.declared.ends.Standing.{Standing}
@@ -90,3 +90,31 @@ outcome_from out (s ∷ ss) = done_by out s.line s.kind (λ out'. outcome_from o
 
 abbrev pub outcome : Early → Outcome
 outcome early = outcome_from [] early.statements
+
+-- ---- no more steps than these: one for each operator, statement and end of a function
+abbrev pub product_steps : Product → ℕ
+product_steps m = length m.rest
+
+abbrev pub summands_steps : List Summand → ℕ
+summands_steps [] = 0
+summands_steps (s ∷ ss) = suc (product_steps s.product) + summands_steps ss
+
+abbrev pub sum_steps : Sum → ℕ
+sum_steps s = product_steps s.first + summands_steps s.rest
+
+abbrev pub items_steps : List Item → ℕ
+items_steps [] = 0
+items_steps (item.Value s ∷ is) = sum_steps s + items_steps is
+items_steps (item.Str bytes ∷ is) = items_steps is
+items_steps (item.Endl ∷ is) = items_steps is
+
+abbrev pub kind_steps : StatementKind → ℕ
+kind_steps (statement.Print first rest) = suc (items_steps (first ∷ rest))
+kind_steps (statement.Return s) = suc (sum_steps s)
+
+abbrev pub statements_steps : List Statement → ℕ
+statements_steps [] = 1
+statements_steps (s ∷ ss) = kind_steps s.kind + statements_steps ss
+
+abbrev pub most_steps : Early → ℕ
+most_steps early = statements_steps early.statements
