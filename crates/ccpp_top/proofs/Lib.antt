@@ -1,3 +1,4 @@
+mod AnswerLaws
 mod Codes
 mod Maps
 mod Runs

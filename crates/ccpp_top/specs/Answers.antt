@@ -3,12 +3,6 @@ use Rattle.std.specs.Prelude.{◌≡◌, ℕ, ◌≤◌, ◌⊎◌, List, [], �
 use Rattle.global_ptr.specs.declared.ends.Standing.{Standing}
 use Rattle.ccpp_edge.specs.Count.{Rose}
 use Rattle.ccpp_edge.specs.Shelf.{Files, HoldsIfTold, Lacks}
-use Rattle.cc_lexer.specs.declared.token.Token.{Token}
-use Rattle.cc_lexer.specs.declared.fault.LexFault.{LexFault}
-use Rattle.cc_lexer.specs.declared.fault.LexFault.TheVariants.{TooLong, BadByte, OpenComment, OpenString, LongName, NumberTooLarge}
-use Rattle.cc_lexer.specs.declared.fault.LexFault.TheVariants as lex
-use Rattle.cc_lexer.specs.Cut.{Cut}
-use Rattle.cc_lexer.specs.Faults.{FirstFault}
 use Rattle.cc_core.specs.Names.{Name}
 use Rattle.cc_core.specs.Core.{Program}
 use Rattle.cc_core.specs.Config.{Config}
@@ -19,7 +13,9 @@ use Rattle.ccpp_top.specs.declared.early.Early.{Early}
 use Rattle.ccpp_top.specs.declared.status.Status.{Status}
 use Rattle.ccpp_top.specs.declared.status.Status.TheVariants as status
 use Rattle.ccpp_top.specs.Early.{core_of}
-use Rattle.ccpp_top.specs.Grammar.{IsEarlySource, IsNoEarlySource}
+use Rattle.ccpp_top.specs.declared.source.Refusal.{Refusal}
+use Rattle.ccpp_top.specs.Grammar.{IsEarlySource}
+use Rattle.ccpp_top.specs.Source.{IsRefusedFor, refusal_text}
 use Rattle.ccpp_top.specs.Status.{status_of}
 use Rattle.ccpp_top.specs.Words.{AskFor, IsWrongAt}
 
@@ -36,27 +32,11 @@ pub record Runs (p : Program) (ints : List ℤ) (limit : ℕ) (output : List ℕ
   pub written : last.output ≡ output
   pub stands : Stands p limit (length steps) last standing
 
--- ---- a source that is refused
-
-abbrev pub lex_fault_text : LexFault → List ℕ
-lex_fault_text TooLong = codes "TooLong"
-lex_fault_text (BadByte at) = codes "BadByte at " ++ decimal at
-lex_fault_text (OpenComment at) = codes "OpenComment at " ++ decimal at
-lex_fault_text (OpenString at) = codes "OpenString at " ++ decimal at
-lex_fault_text (LongName at) = codes "LongName at " ++ decimal at
-lex_fault_text (NumberTooLarge at) = codes "NumberTooLarge at " ++ decimal at
-lex_fault_text lex.Memory = []
-
--- its first fault, or that it is none of the sources that are taken so far
-pub data Refusal (source : List ℕ) : (text : List ℕ) → Type 0 where
-  no_tokens : {fault : LexFault} → FirstFault source fault → Refusal source (line (codes "refused lex " ++ lex_fault_text fault))
-  not_yet : {tokens : List Token} → Cut source tokens → Refusal source (line (codes "refused early NotYet"))
-
 -- ---- the answers
 
--- of `run` on a file of these bytes: a refusal exactly where it is no source; else the report of a run of the program
+-- Of `run` on a file of these bytes: why it is refused, exactly where it is no source; else the report of a run of the program.
 pub data Answers (source : List ℕ) : (text : List ℕ) → Status → Type 0 where
-  refused : {text : List ℕ} → IsNoEarlySource source → Refusal source text → Answers source text status.SourceRefused
+  refused : (why : Refusal) → IsRefusedFor source why → Answers source (line (refusal_text why)) status.SourceRefused
   reported : {early : Early} {output : List ℕ} {end : Standing} → IsEarlySource source early → Runs (core_of early) [] step_limit output end → Answers source (report output end Determinate) (status_of end)
 
 -- Of `ccpp` to these words, where the shelf tells what it holds as `held`, and its count of faults goes from one number to another.

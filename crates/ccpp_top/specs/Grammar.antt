@@ -100,3 +100,6 @@ pub record IsEarlySource (text : List ℕ) (early : Early) : Type 0 where
 
 abbrev pub IsNoEarlySource : List ℕ → Type 0
 IsNoEarlySource text = (early : Early) → IsEarlySource text early → ⊥
+
+abbrev pub IsCut : List ℕ → Type 0
+IsCut text = (tokens : List Token) × Cut text tokens

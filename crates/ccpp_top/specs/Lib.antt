@@ -3,6 +3,7 @@ pub mod Code
 pub mod Early
 pub mod Grammar
 pub mod Machine
+pub mod Source
 pub mod Status
 pub mod Outcome
 pub mod Words

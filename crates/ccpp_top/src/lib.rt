@@ -2,6 +2,7 @@
 #![tactic(auto)]
 
 mod answer;
+mod answers;
 mod code;
 mod command;
 mod early;
@@ -9,6 +10,7 @@ mod machine;
 mod operator;
 mod outcome;
 mod run;
+mod source;
 mod stack;
 mod status;
 mod word;
