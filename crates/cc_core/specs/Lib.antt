@@ -10,3 +10,4 @@ pub mod Report
 pub mod Source
 pub mod Numbers
 pub mod Types
+pub mod View

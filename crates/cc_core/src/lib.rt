@@ -1,2 +1,7 @@
-//! What programs mean.
 #![tactic(auto)]
+
+mod expression;
+mod statement;
+
+pub use expression::{Constant, Expression, How, PrintPart};
+pub use statement::Statement;
