@@ -5,7 +5,7 @@ ghost use Rattle.ccpp_top.specs.Words.{AskFor};
 use crate::answer::Answer;
 use crate::command::{Command, WordsFault};
 use crate::run::run;
-use crate::source::{Refusal, read_source};
+use crate::source::read_source;
 use crate::status::Status;
 use crate::word::Word;
 use ccpp_edge::{Memory, Shelf, ShelfFault};
@@ -44,7 +44,6 @@ fn answer_of(alloc: Global, source: &[u8]) -> Result<Answer, Memory>
 {
     match read_source(alloc, source) {
         Ok(program) => Answer::report(alloc, run(alloc, &program)?),
-        Err(Refusal::Memory) => Err(AllocError),
         Err(why) => Answer::line(alloc, Status::SourceRefused, why.text(alloc)?.as_str()),
     }
 }

@@ -32,12 +32,12 @@ impl From<AllocError> for Refusal {
 }
 
 impl Refusal {
-    ghost use Rattle.std.specs.Prelude.{◌≡◌, IfOk, string_bytes};
+    ghost use Rattle.std.specs.Prelude.{◌≡◌, ◌≢◌, IfOk, string_bytes};
     ghost use Rattle.ccpp_top.specs.Source.{refusal_text};
 
-    /// What is answered, without the end of its line.
+    /// What is answered, without the end of its line. There is no text for want of memory.
     pub(crate) fn text(self, alloc: Global) -> Result<String, Memory>
-        ensures { IfOk result (λ text. string_bytes text ≡ refusal_text self) }
+        ensures { IfOk result (λ text. (self ≢ Refusal.Memory) × (string_bytes text ≡ refusal_text self)) }
     {
         match self {
             Refusal::Lex(fault) => {
