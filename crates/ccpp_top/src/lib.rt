@@ -5,6 +5,7 @@ mod answer;
 mod answers;
 mod code;
 mod command;
+mod call;
 mod early;
 mod machine;
 mod operator;
@@ -15,5 +16,6 @@ mod stack;
 mod status;
 mod word;
 
+pub use call::ccpp;
 pub use status::Status;
 pub use word::Word;
