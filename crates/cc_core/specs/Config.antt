@@ -2,7 +2,7 @@
 use Rattle.std.specs.Prelude.{ℕ, List, [], ◌∷◌, length, slice_get, Option, Some, None}
 use Rattle.std.specs.FinMap as fin
 use Rattle.cc_ops.specs.Values.{Void, Int, Null, Ptr, Gives, Fails, Result}
-use Rattle.cc_ops.specs.Classes.{write_cell}
+use Rattle.cc_ops.specs.Cells.{write_cell}
 use Rattle.cc_core.specs.Names.{Name, Map, Value, Cell, added}
 use Rattle.cc_core.specs.Core.{Term}
 

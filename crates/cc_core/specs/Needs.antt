@@ -4,7 +4,8 @@ use Rattle.std.specs.Prelude.{◌+ℤ◌, int_lt, nat_abs, List, [], ◌∷◌, 
 use Rattle.std.specs.FinMap as fin
 use Rattle.cc_ops.specs.Values.{Void, Int, Null, Ptr, int_of, Plain, Empty, Full, moved, last_offset, Result, Gives, Fails, on_gives}
 use Rattle.cc_ops.specs.Operators.{compute}
-use Rattle.cc_ops.specs.Classes.{element, construct, arity, size}
+use Rattle.cc_ops.specs.Addresses.{indexed, shifted}
+use Rattle.cc_ops.specs.Classes.{construct, arity, size}
 use Rattle.global_ptr.specs.declared.ends.FaultKind.{FaultKind}
 use Rattle.global_ptr.specs.declared.ends.FaultKind.TheVariants.{SyncTwice, IndexOut, NullPointer, StoreFull, ThreadsFull, ProcessorsFull}
 use Rattle.global_ptr.specs.declared.ends.FaultKind.TheVariants.{CallDepth}
@@ -52,20 +53,6 @@ pub data Need : Type 0 where
 
 abbrev pub one : Result Value → Result (List Value)
 one r = on_gives r (λ v. Gives (v ∷ []))
-
--- the address of an element of an array of n cells
-abbrev pub indexed : Value → ℕ → Value → Result Value
-indexed a n i = on_gives (element n i) (λ k. Gives (moved a k))
-
--- the address i cells behind a pointer's
-abbrev pub shifted : Value → ℤ → Result Value
-shifted Void i = Fails NullPointer
-shifted (Int n) i = Fails NullPointer
-shifted Null i = Fails NullPointer
-shifted (Ptr o x) i =
-    if int_lt (pos x +ℤ i) (pos 0) || int_lt (pos last_offset) (pos x +ℤ i)
-    then Fails IndexOut
-    else Gives (Ptr o (nat_abs (pos x +ℤ i)))
 
 abbrev pub needs : Shapes → Ask Name → List Need
 needs h (Reads remote a) = Filled a ∷ []

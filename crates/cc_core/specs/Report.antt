@@ -1,7 +1,7 @@
 -- The report of a run, as bytes.
 use Rattle.std.specs.Prelude.{ℕ, ◌-◌, ◌==◌, List, [], ◌∷◌, ◌++◌, length, slice_get, Option, Some, None, if◌then◌else◌, codes, decimal}
 use Rattle.std.specs.Fmt.{signed_decimal}
-use Rattle.global_ptr.specs.Names.{fault_name}
+use Rattle.global_ptr.specs.Texts.{fault_name}
 use Rattle.global_ptr.specs.declared.ends.Standing.{Standing}
 use Rattle.global_ptr.specs.declared.ends.Standing.TheVariants.{Done, Blocked, Fault, Limit}
 

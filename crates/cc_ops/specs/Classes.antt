@@ -1,13 +1,13 @@
 -- The shapes of functions and classes, and what a constructor makes of a new object.
-use Rattle.std.specs.Prelude.{ℕ, ◌+◌, Bool, true, false, not, ◌&&◌, int_lt, nat_abs, if◌then◌else◌, Option, Some, None, pos}
-use Rattle.std.specs.Prelude.{List, [], ◌∷◌, ◌++◌, length, replicate, slice_get, slice_set, get_or}
-use Rattle.cc_ops.specs.Values.{Value, Void, Constant, constant, Cell, Plain, Empty, Full, fresh, Result}
-use Rattle.cc_ops.specs.Values.{Gives, Fails, on_gives, int_of, is_zero}
-use Rattle.cc_ops.specs.Operators.{compute, truth}
-use Rattle.global_ptr.specs.declared.ends.FaultKind.TheVariants.{SyncTwice, IndexOut}
+use Rattle.std.specs.Prelude.{ℕ, ◌+◌, Bool, true, false, if◌then◌else◌, Option, Some, None, List, []}
+use Rattle.std.specs.Prelude.{◌∷◌, ◌++◌, length, replicate, get_or}
+use Rattle.cc_ops.specs.Values.{Value, Void, Constant, constant, Cell, fresh, Result, Gives, on_gives}
+use Rattle.cc_ops.specs.Values.{is_zero}
+use Rattle.cc_ops.specs.Cells.{write_cell}
+use Rattle.cc_ops.specs.Addresses.{element}
+use Rattle.cc_ops.specs.Operators.{compute, truth, truth_of}
 use Rattle.cc_ops.specs.declared.kind.Kind.{Kind}
 use Rattle.cc_ops.specs.declared.operator.Op.{Op}
-use Rattle.cc_ops.specs.declared.operator.Op.TheVariants.{Bool as Bool'}
 use Rattle.cc_ops.specs.declared.shape.CellRun.{CellRun}
 
 -- an expression of a constructor: constants, the constructor's parameters by number, operators, `&&` and `||`
@@ -54,24 +54,6 @@ abbrev pub fresh_cells : {N : Type 0} → List CellRun → List (Cell N)
 fresh_cells [] = []
 fresh_cells (run ∷ more) = replicate run.count (fresh run.kind) ++ fresh_cells more
 
--- the place of an element of an array of n cells: its index is 0 to n - 1
-abbrev pub element : {N : Type 0} → ℕ → Value N → Result ℕ
-element n v = if int_lt (int_of v) (pos n) && not (int_lt (int_of v) (pos 0)) then Gives (nat_abs (int_of v)) else Fails IndexOut
-
--- a cell after a write; a sync cell is assigned once
-abbrev pub written : {N : Type 0} → Cell N → Value N → Result (Cell N)
-written (Plain w) v = Gives (Plain v)
-written Empty v = Gives (Full v)
-written (Full w) v = Fails SyncTwice
-
-abbrev pub write_at : {N : Type 0} → List (Cell N) → ℕ → Value N → Option (Cell N) → Result (List (Cell N))
-write_at cells i v None = Fails IndexOut
-write_at cells i v (Some c) = on_gives (written c v) (λ d. Gives (slice_set cells i d))
-
--- an object's cells after a write of the one at an offset
-abbrev pub write_cell : {N : Type 0} → List (Cell N) → ℕ → Value N → Result (List (Cell N))
-write_cell cells i v = write_at cells i v (slice_get cells i)
-
 -- what a constructor does with the values of its parameters
 module _ {N : Type 0} (same : N → N → Bool) (args : List (Value N)) where
   abbrev mutual
@@ -79,10 +61,8 @@ module _ {N : Type 0} (same : N → N → Bool) (args : List (Value N)) where
     evaluate (Literal c) = Gives (constant c)
     evaluate (Param k) = Gives (get_or args k Void)
     evaluate (Apply op es) = on_gives (evaluate_all es) (compute same op)
-    evaluate (Both a b) = on_gives (evaluate a) (λ v.
-        if is_zero v then Gives (truth false) else on_gives (evaluate b) (λ w. compute same Bool' (w ∷ [])))
-    evaluate (Either a b) = on_gives (evaluate a) (λ v.
-        if is_zero v then on_gives (evaluate b) (λ w. compute same Bool' (w ∷ [])) else Gives (truth true))
+    evaluate (Both a b) = on_gives (evaluate a) (λ v. if is_zero v then Gives (truth false) else truth_of (evaluate b))
+    evaluate (Either a b) = on_gives (evaluate a) (λ v. if is_zero v then truth_of (evaluate b) else Gives (truth true))
 
     pub evaluate_all : BuildExprs → Result (List (Value N))
     evaluate_all NoParts = Gives []

@@ -1,5 +1,5 @@
 -- Values, cells and faults. N is the type of what names an object: a path in the source, numbers in the machine.
-use Rattle.std.specs.Prelude.{ℕ, zero, suc, ◌+◌, min, Bool, true, false, not, ◌&&◌, int_lt, List, [], ◌∷◌, ℤ, pos}
+use Rattle.std.specs.Prelude.{ℕ, zero, suc, ◌+◌, min, Bool, true, false, not, ◌&&◌, int_lt, List, [], ◌∷◌, get_or, ℤ, pos}
 use Rattle.global_ptr.specs.declared.ends.FaultKind.{FaultKind}
 use Rattle.cc_ops.specs.declared.kind.Kind.{Kind}
 use Rattle.cc_ops.specs.declared.kind.Kind.TheVariants.{Int as IntK, SyncInt as SyncIntK, Ptr as PtrK, SyncPtr as SyncPtrK}
@@ -72,14 +72,12 @@ same_int a b = not (int_lt a b) && not (int_lt b a)
 abbrev pub is_zero : {N : Type 0} → Value N → Bool
 is_zero v = same_int (int_of v) (pos 0)
 
--- the first of some values, void where there is none; the second; those after the first
+-- the first of some values and the second, void where there is none; and those after the first
 abbrev pub first : {N : Type 0} → List (Value N) → Value N
-first [] = Void
-first (v ∷ vs) = v
+first vs = get_or vs 0 Void
 
 abbrev pub second : {N : Type 0} → List (Value N) → Value N
-second [] = Void
-second (v ∷ vs) = first vs
+second vs = get_or vs 1 Void
 
 abbrev pub after_first : {N : Type 0} → List (Value N) → List (Value N)
 after_first [] = []

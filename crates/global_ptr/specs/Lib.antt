@@ -1,2 +1,2 @@
-pub mod Names
+pub mod Texts
 pub mod ReadyList

@@ -41,6 +41,26 @@ fn ready_keeps_its_places(rt: HostRuntime) -> Result<(), Fail> {
 }
 
 #[test]
+fn values_are_printed(rt: HostRuntime) -> Result<(), Fail> {
+    let address = Addr {
+        processor: 1,
+        object: 20,
+        offset: 3,
+    };
+    let values = [
+        Value::Void,
+        Value::Int(-7),
+        Value::Null,
+        Value::Ptr(address),
+    ];
+    let texts = ["void", "-7", "null", "1:20:3"];
+    for (value, text) in values.iter().zip(texts.iter()) {
+        assert_eq!(rt; value.to_string(rt.alloc())?.as_str(), *text);
+    }
+    Ok(())
+}
+
+#[test]
 fn faults_have_names(rt: HostRuntime) {
     assert_eq!(rt; FaultKind::SyncTwice.name(), "SyncTwice");
     assert_eq!(rt; FaultKind::CallDepth.name(), "CallDepth");
