@@ -3,7 +3,8 @@ pub mod Code
 pub mod Early
 pub mod Grammar
 pub mod Machine
+pub mod Outcome
+pub mod Reading
 pub mod Source
 pub mod Status
-pub mod Outcome
 pub mod Words
