@@ -1,5 +1,6 @@
 mod AnswerLaws
 mod Codes
+mod GrammarLaws
 mod Maps
 pub mod ReadingLaws
 mod Runs
