@@ -3,6 +3,8 @@ use Rattle.std.specs.Prelude.{ℕ, List, [], ◌++◌, codes, decimal}
 use Rattle.cc_lexer.specs.declared.fault.LexFault.{LexFault}
 use Rattle.cc_lexer.specs.declared.fault.LexFault.TheVariants as lex
 use Rattle.cc_lexer.specs.Faults.{FirstFault}
+use Rattle.ccpp_top.specs.declared.fault.EarlyFault.{EarlyFault}
+use Rattle.ccpp_top.specs.declared.fault.EarlyFault.TheVariants as early
 use Rattle.ccpp_top.specs.declared.source.Refusal.{Refusal}
 use Rattle.ccpp_top.specs.declared.source.Refusal.TheVariants.{Lex, NotYet, Memory}
 use Rattle.ccpp_top.specs.Grammar.{IsCut, IsNoEarlySource}
@@ -27,3 +29,13 @@ abbrev pub refusal_text : Refusal → List ℕ
 refusal_text (Lex fault) = codes "refused lex " ++ lex_fault_text fault
 refusal_text NotYet = codes "refused early NotYet"
 refusal_text Memory = []
+
+-- ---- the fault of a part as a refusal
+
+abbrev pub lex_refusal : LexFault → Refusal
+lex_refusal lex.Memory = Memory
+lex_refusal fault = Lex fault
+
+abbrev pub early_refusal : EarlyFault → Refusal
+early_refusal early.NotYet = NotYet
+early_refusal early.Memory = Memory

@@ -1,12 +1,12 @@
-ghost use Rattle.std.specs.Prelude.{◌≡◌, IfOk};
+ghost use Rattle.std.specs.Prelude.{◌≡◌};
 ghost use Rattle.cc_lexer.specs.Lexemes as lexemes;
 ghost use Rattle.ccpp_top.specs.Grammar.{mark_piece};
 ghost use Rattle.ccpp_top.specs.Reading as reading;
 
 use crate::fault::EarlyFault;
 use crate::piece::{Fixed, Opener};
-use cc_lexer::{Keyword, Mark, Token, TokenKind};
-use ccpp_edge::{Bytes, Memory};
+use cc_lexer::{Keyword, Mark, Token, TokenKind, unescaped};
+use ccpp_edge::Bytes;
 use std::alloc::Global;
 use std::marker::Model;
 
@@ -154,39 +154,6 @@ impl<'a> Cursor<'a> {
         let line = self.tokens[0].line;
         self.advance();
         Ok(line)
-    }
-}
-
-/// The bytes of the string that a token is: those between its quotes, each escape replaced.
-fn unescaped(alloc: Global, text: &[u8]) -> Result<Bytes, Memory>
-    ensures { IfOk result (λ bytes. bytes ≡ lexemes.unescaped text.now) }
-{
-    let mut bytes = Bytes::new(alloc);
-    let unclosed = &text[..text.len().saturating_sub(1)];
-    let mut inside = unclosed.get(1..).unwrap_or(&[]);
-    while let [first, rest @ ..] = inside {
-        match rest {
-            [escaped, after @ ..] if *first == b'\\' => {
-                bytes.push(escaped_byte(*escaped))?;
-                inside = after;
-            }
-            _ => {
-                bytes.push(*first)?;
-                inside = rest;
-            }
-        }
-    }
-    Ok(bytes)
-}
-
-/// The byte that a backslash and this byte stand for.
-fn escaped_byte(byte: u8) -> u8
-    ensures { result ≡ lexemes.escaped_byte byte }
-{
-    match byte {
-        b'n' => b'\n',
-        b't' => b'\t',
-        _ => byte,
     }
 }
 

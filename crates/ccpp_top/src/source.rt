@@ -4,8 +4,11 @@ ghost use Rattle.ccpp_top.specs.Grammar.{IsEarlySource};
 ghost use Rattle.ccpp_top.specs.Outcome.{most_steps};
 ghost use Rattle.ccpp_top.specs.Source.{IsRefusedFor, lex_fault_text};
 
+use crate::cursor::Cursor;
 use crate::early::Early;
-use cc_lexer::LexFault;
+use crate::fault::EarlyFault;
+use crate::parse::program;
+use cc_lexer::{LexFault, laws, lex};
 use ccpp_edge::Memory;
 use std::alloc::{AllocError, Global};
 
@@ -28,6 +31,34 @@ impl From<AllocError> for Refusal {
 
     fn from(_: AllocError) -> Refusal {
         Refusal::Memory
+    }
+}
+
+impl From<LexFault> for Refusal {
+    ghost use Rattle.std.specs.Prelude.{◌≡◌};
+    ghost use Rattle.ccpp_top.specs.Source.{lex_refusal};
+
+    ghost from_gives = { λ fault refusal. refusal ≡ lex_refusal fault };
+
+    fn from(fault: LexFault) -> Refusal {
+        match fault {
+            LexFault::Memory => Refusal::Memory,
+            _ => Refusal::Lex(fault),
+        }
+    }
+}
+
+impl From<EarlyFault> for Refusal {
+    ghost use Rattle.std.specs.Prelude.{◌≡◌};
+    ghost use Rattle.ccpp_top.specs.Source.{early_refusal};
+
+    ghost from_gives = { λ fault refusal. refusal ≡ early_refusal fault };
+
+    fn from(fault: EarlyFault) -> Refusal {
+        match fault {
+            EarlyFault::NotYet => Refusal::NotYet,
+            EarlyFault::Memory => Refusal::Memory,
+        }
     }
 }
 
@@ -71,5 +102,14 @@ pub(crate) fn read_source(alloc: Global, text: &[u8]) -> Result<Early, Refusal>
     ensures short { IfOk result (λ early. most_steps early < step_limit) }
     ensures refused { IfErr result (λ why. why ≢ Refusal.Memory → IsRefusedFor text.now why) }
 {
-    Err(Refusal::Memory)
+    let tokens = lex(alloc, text)?;
+    laws::spans();
+    laws::one_cut();
+    laws::one_fault();
+    let mut cursor = Cursor::new(text, tokens.as_slice());
+    let early = program(alloc, &mut cursor)?;
+    if cursor.left() > 0 {
+        return Err(Refusal::NotYet);
+    }
+    Ok(early)
 }
