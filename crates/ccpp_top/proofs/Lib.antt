@@ -4,6 +4,7 @@ mod GrammarLaws
 mod Maps
 pub mod ReadingLaws
 mod Runs
+mod SourceLaws
 mod Statements
 mod Sums
 mod WordsLaws

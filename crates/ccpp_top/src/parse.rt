@@ -1,5 +1,9 @@
 //! The parser of the early form. It decides by the next token.
 
+ghost use Rattle.std.specs.Prelude.{◌≡◌, ◌≢◌, IfOk, IfErr};
+ghost use Rattle.ccpp_top.specs.declared.early.Early.{Early};
+ghost use Rattle.ccpp_top.specs.Grammar as grammar;
+ghost use Rattle.ccpp_top.specs.Grammar.{pieces};
 ghost use Rattle.ccpp_top.specs.Reading as reading;
 ghost use Rattle.ccpp_top.specs.Reading.{Gives};
 
@@ -7,12 +11,27 @@ use crate::cursor::Cursor;
 use crate::early::{Early, Item, Product, Sign, Statement, StatementKind, Sum, Summand};
 use crate::fault::EarlyFault;
 use crate::piece::{Fixed, Opener};
+use cc_lexer::Token;
 use ccpp_edge::List;
 use std::alloc::Global;
 
+/// The program as which the tokens of the text are written.
+pub(crate) fn parse(alloc: Global, text: &[u8], tokens: &[Token]) -> Result<Early, EarlyFault>
+    ensures written { IfOk result (λ early. pieces text.now tokens.now ≡ grammar.program early) }
+    ensures not_yet { IfErr result (λ fault. fault ≢ EarlyFault.Memory
+        → (early : Early) → pieces text.now tokens.now ≢ grammar.program early) }
+{
+    let mut tokens = Cursor::new(text, tokens);
+    let early = program(alloc, &mut tokens)?;
+    if tokens.left() > 0 {
+        return Err(EarlyFault::NotYet);
+    }
+    Ok(early)
+}
+
 /// `int main() { .. }`
 #[tactic(auto, unfolding(crate::specs::Reading::program))]
-pub(crate) fn program(alloc: Global, tokens: &mut Cursor<'_>) -> Result<Early, EarlyFault>
+fn program(alloc: Global, tokens: &mut Cursor<'_>) -> Result<Early, EarlyFault>
     ensures { Gives (reading.program tokens.old) result tokens.new }
 {
     let line = tokens.opener(Opener::Int)?;

@@ -4,10 +4,9 @@ ghost use Rattle.ccpp_top.specs.Grammar.{IsEarlySource};
 ghost use Rattle.ccpp_top.specs.Outcome.{most_steps};
 ghost use Rattle.ccpp_top.specs.Source.{IsRefusedFor, lex_fault_text};
 
-use crate::cursor::Cursor;
 use crate::early::Early;
 use crate::fault::EarlyFault;
-use crate::parse::program;
+use crate::parse::parse;
 use cc_lexer::{LexFault, laws, lex};
 use ccpp_edge::Memory;
 use std::alloc::{AllocError, Global};
@@ -106,10 +105,5 @@ pub(crate) fn read_source(alloc: Global, text: &[u8]) -> Result<Early, Refusal>
     laws::spans();
     laws::one_cut();
     laws::one_fault();
-    let mut cursor = Cursor::new(text, tokens.as_slice());
-    let early = program(alloc, &mut cursor)?;
-    if cursor.left() > 0 {
-        return Err(Refusal::NotYet);
-    }
-    Ok(early)
+    Ok(parse(alloc, text, tokens.as_slice())?)
 }
