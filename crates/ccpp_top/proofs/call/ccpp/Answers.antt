@@ -1,0 +1,14 @@
+use Rattle.std.proofs.Common.{rules}
+use Rattle.ccpp_top.proofs.AnswerLaws.{says_answers, says_cause}
+use Rattle.ccpp_top.proofs.call.ccpp.Goals as goal
+
+pub returns-in-Ok-write_all-clause-headline : goal.returns-in-Ok-write_all-clause-headline
+returns-in-Ok-write_all-clause-headline g c =
+    λ file source asked holds shelf_calm sink_calm memory. (
+      c.as_slice.result.now,
+      rw c.as_slice.ensures (says_answers c.args.words.now _ _ _ file source asked holds shelf_calm c.in-Ok.answer.text c.in-Ok.answer.status c.in-Ok.ensures.says),
+      c.in-Ok-write_all.ensures.ok,
+    )
+
+pub returns-in-Ok-write_all-clause-cause : goal.returns-in-Ok-write_all-clause-cause
+returns-in-Ok-write_all-clause-cause g c = says_cause c.args.words.now _ _ _ _ _ c.in-Ok.answer.text c.in-Ok.answer.status c.in-Ok.ensures.says

@@ -1,0 +1,23 @@
+-- The words of the command line, and the commands that they ask for.
+use Rattle.std.specs.Prelude.{◌≡◌, ◌≢◌, ℕ, ◌+◌, ◌-◌, ◌⊎◌, List, [], ◌∷◌, ◌++◌, length, take, codes}
+use Rattle.ccpp_top.specs.declared.command.Command.{Command}
+use Rattle.ccpp_top.specs.declared.command.Command.TheVariants.{Run}
+
+-- a word that names a file: it is not empty and does not begin with '-'
+abbrev pub IsFileName : List ℕ → Type 0
+IsFileName [] = ⊥
+IsFileName (b ∷ bs) = b ≢ 45
+
+abbrev pub AskFor : List (List ℕ) → Command → Type 0
+AskFor words (Run file) = (words ≡ codes "run" ∷ file ∷ []) × IsFileName file
+
+-- some words that ask for a command begin with these
+abbrev pub IsFront : List (List ℕ) → Type 0
+IsFront words = (more : List (List ℕ)) × (command : Command) × AskFor (words ++ more) command
+
+-- the words ask for nothing, and those before the place are a front. Either more words are wanted, or with the word
+-- at the place, counted from 1, they are a front no more
+pub record IsWrongAt (words : List (List ℕ)) (place : ℕ) : Type 0 where
+  pub refused : (command : Command) → AskFor words command → ⊥
+  pub front : IsFront (take (place - 1) words)
+  pub first : (place ≡ length words + 1) ⊎ (IsFront (take place words) → ⊥)

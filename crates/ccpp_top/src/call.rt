@@ -1,0 +1,56 @@
+ghost use Rattle.std.specs.Prelude.{◌≡◌, ◌≢◌, ◌⊎◌, ℕ, List};
+ghost use Rattle.ccpp_edge.specs.Count.{Rose};
+ghost use Rattle.ccpp_edge.specs.Shelf.{Holds};
+ghost use Rattle.ccpp_top.specs.Answers.{Answers, Says, Gains, GainsFront, Cause};
+ghost use Rattle.ccpp_top.specs.Words.{AskFor};
+ghost use Rattle.ccpp_top.specs.declared.command.Command.TheVariants.{Run};
+
+use crate::answers::answer_to;
+use crate::status::Status;
+use crate::word::Word;
+use ccpp_edge::{Gate, Shelf, Sink, SinkFault};
+use std::alloc::Global;
+use std::thread::Threads;
+
+/// Does what the words of a command line ask for: reads from the shelf, and writes one text to the sink.
+///
+/// `run F` runs the program in the file F and writes its report: a run of the source definition comes to this output and this
+/// end within 10,000,000 steps. A file that is no program of the early form is refused, and so are other words.
+/// The runtime and the gate are for programs that start threads, of which there are none yet.
+pub fn ccpp<R: Threads + Sync, S: Shelf, O: Sink, G: Gate>(
+    _rt: &R,
+    alloc: Global,
+    words: &[Word],
+    shelf: &mut S,
+    out: &mut O,
+    _gate: &G,
+) -> Status
+    // Unless memory is refused or the shelf or the sink fails, `run` writes the report of a run of the program in the file, or
+    // that the file is none.
+    ensures headline { (file source : List ℕ)
+        → AskFor words.now (Run file)
+        → Holds (S.held shelf.old) file source
+        → (Rose (S.faults shelf.old) (S.faults shelf.new) → ⊥)
+        → (Rose (O.faults out.old) (O.faults out.new) → ⊥)
+        → result ≢ Status.Memory
+        → Gains (Answers source) (O.written out.old) (O.written out.new) result }
+
+    // The whole text is written, or a front of it where the sink fails, or nothing where memory runs out.
+    ensures answer { result ≢ Status.WriteFault → result ≢ Status.Memory
+        → Gains (Says words.now (S.held shelf.old) (S.faults shelf.old) (S.faults shelf.new)) (O.written out.old) (O.written out.new) result }
+    ensures write_fault { result ≡ Status.WriteFault
+        → GainsFront (Says words.now (S.held shelf.old) (S.faults shelf.old) (S.faults shelf.new)) (O.written out.old) (O.written out.new) }
+    ensures memory { result ≡ Status.Memory → O.written out.new ≡ O.written out.old }
+
+    ensures shelf { S.held shelf.new ≡ S.held shelf.old }
+    ensures cause { Cause words.now (S.held shelf.old) (S.faults shelf.old) (S.faults shelf.new) (O.faults out.old) (O.faults out.new) result }
+{
+    let Ok(answer) = answer_to(alloc, words, shelf) else {
+        return Status::Memory;
+    };
+    match out.write_all(answer.text.as_slice()) {
+        Ok(()) => answer.status,
+        Err(SinkFault::Failed) => Status::WriteFault,
+        Err(SinkFault::Memory) => Status::Memory,
+    }
+}
