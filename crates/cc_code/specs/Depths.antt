@@ -8,7 +8,7 @@ use Rattle.cc_core.specs.Core.{Spawn, Return, Block, Stmts, NoStmts, MoreStmts, 
 use Rattle.cc_core.specs.Source.{width, operands, values}
 use Rattle.cc_code.specs.Code.{Instr, PushI, ThisI, VariableI, FieldI, DropI, JumpI, EndI, IndexI, AtI, LoadI, StoreI, OpI, TestI, AndI}
 use Rattle.cc_code.specs.Code.{OrI, MakeI, SetI, BuildI, NewI, NewObjectI, CallI, SpawnI, CellsI, RetI, ForkI, EachI, JoinI, PrintI}
-use Rattle.cc_code.specs.Code.{Placed}
+use Rattle.cc_code.specs.Code.{Placed, Code}
 use Rattle.cc_code.specs.Layout.{end_term, end_terms, end_stmt, end_branches, Loop, NoLoop, In}
 
 -- the instruction at place b takes m operands and leaves n in their stead
@@ -54,6 +54,11 @@ Flows h ds b (PrintI parts) = Takes ds b (values parts) 0
 abbrev pub AllFlow : Shapes → (ℕ → ℕ) → ℕ → List Placed → Type 0
 AllFlow h ds b [] = Unit {0}
 AllFlow h ds b (i ∷ is) = Flows h ds b i.instr × AllFlow h ds (suc b) is
+
+-- each place of the code has a depth that fits its instruction, so that an instruction finds the operands that it takes and each place is
+-- reached with one depth; a function and a branch begin with none
+abbrev pub HaveDepths : Code → Type 0
+HaveDepths code = (ds : ℕ → ℕ) × AllFlow code.shapes ds 0 code.places × AllZero ds code.entries
 
 abbrev mutual
   -- the depths of a term that begins at depth d

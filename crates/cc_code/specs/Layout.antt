@@ -11,9 +11,9 @@ use Rattle.cc_code.specs.Code.{Instr, PushI, ThisI, VariableI, FieldI, DropI, Ju
 use Rattle.cc_code.specs.Code.{OrI, MakeI, SetI, BuildI, NewI, NewObjectI, CallI, SpawnI, CellsI, RetI, ForkI, EachI, JoinI, PrintI}
 use Rattle.cc_code.specs.Code.{Placed, Code}
 
--- a part is laid out after its own parts, in the order of evaluation; b is the place where it begins
+-- Each part is laid out behind its own parts, in the order of evaluation. b is the place where a part begins.
 
--- behind a call; a remote one has a join behind it
+-- the place behind a call; a remote one has a join behind it
 abbrev pub end_call : How → ℕ → ℕ
 end_call Alone b = suc b
 end_call On b = suc b

@@ -12,7 +12,8 @@ use Rattle.cc_code.specs.Depths.{AllZero, AllFlow, TermDeep, TermsDeep, LoopDeep
 use Rattle.cc_follows.proofs.Lays.{after, looped, term_end, terms_end, stmt_end, branches_end}
 
 module _ (h : Shapes) (ds : ℕ → ℕ) where
-  flow_both : (b mid : ℕ) (xs ys : List Placed) → after b xs ≡ mid → AllFlow h ds b xs → AllFlow h ds mid ys → AllFlow h ds b (xs ++ ys)
+  pub flow_both : (b mid : ℕ) (xs ys : List Placed) → after b xs ≡ mid → AllFlow h ds b xs → AllFlow h ds mid ys
+      → AllFlow h ds b (xs ++ ys)
   flow_both b mid [] ys e f g = subst (λ n. AllFlow h ds n ys) (sym e) g
   flow_both b mid (x ∷ xs) ys e f g = (f.0, flow_both (suc b) mid xs ys e f.1 g)
 

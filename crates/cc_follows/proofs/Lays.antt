@@ -16,12 +16,12 @@ abbrev pub looped : Loop → Bool
 looped NoLoop = false
 looped (In out again) = true
 
--- the place behind instructions that begin at a place
-abbrev pub after : ℕ → List Placed → ℕ
+-- the place behind items that begin at a place, each at a place of its own
+abbrev pub after : {A : Type 0} → ℕ → List A → ℕ
 after b [] = b
 after b (i ∷ is) = after (suc b) is
 
-after_both : (b : ℕ) (xs ys : List Placed) → after b (xs ++ ys) ≡ after (after b xs) ys
+after_both : {A : Type 0} (b : ℕ) (xs ys : List A) → after b (xs ++ ys) ≡ after (after b xs) ys
 after_both b [] ys = refl
 after_both b (x ∷ xs) ys = after_both (suc b) xs ys
 
@@ -35,7 +35,7 @@ parts code b end [] ys e h = (tt, subst (λ n. Lie code n ys) e h)
 parts code b end (x ∷ xs) ys e h = let r = parts code (suc b) end xs ys e h.1 in ((h.0, r.0), r.1)
 
 -- the end of two parts
-pub ends : (b mid end : ℕ) (xs ys : List Placed) → after b xs ≡ mid → after mid ys ≡ end → after b (xs ++ ys) ≡ end
+pub ends : {A : Type 0} (b mid end : ℕ) (xs ys : List A) → after b xs ≡ mid → after mid ys ≡ end → after b (xs ++ ys) ≡ end
 ends b mid end xs ys e d = after_both b xs ys ∙ (ap (λ n. after n ys) e ∙ d)
 
 module _ (h : Shapes) where

@@ -86,7 +86,7 @@ after_length b (x ∷ xs) =
     let e : suc b + length xs ≡ b + suc (length xs) = omega arith in
     h ∙ e
 
-abbrev Sources : (h : Shapes) → List Function → Type 0
+abbrev pub Sources : (h : Shapes) → List Function → Type 0
 Sources h fs = (k : ℕ) → k < length fs → AreStmts h false (get_or fs k no_function).body
 
 functions_end : (h : Shapes) (fs : List Function) (b : ℕ) → Sources h fs → after b (code_functions b fs) ≡ end_functions b fs

@@ -9,6 +9,7 @@ ghost use Rattle.cc_core.specs.Next.{next, entered};
 ghost use Rattle.cc_code.specs.Layout.{layout};
 ghost use Rattle.cc_code.specs.Code.{Code, Thread, Runs, Starting, enter_at, move};
 ghost use Rattle.cc_code.specs.Settles.{Settles};
+ghost use Rattle.cc_code.specs.Depths.{HaveDepths};
 ghost use Rattle.cc_code.specs.Agrees.{Follows, Agrees, Same, ProgramStands};
 
 /// Where the functions of a program stand in the code, an entered function and a thread whose first step is a call do, for any number of
@@ -30,4 +31,9 @@ pub fn layout_stands()
 /// From each place of a layout silent moves come to an end.
 pub fn layout_settles()
     ensures { (p : Program) → IsProgram p → (c : ℕ) → Settles (layout p) c }
+{}
+
+/// The operands fit everywhere in a layout: each place is reached with one number of them, and each instruction finds those that it takes.
+pub fn layout_has_depths()
+    ensures { (p : Program) → IsProgram p → HaveDepths (layout p) }
 {}
