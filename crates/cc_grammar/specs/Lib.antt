@@ -1,0 +1,9 @@
+pub mod Lexeme
+pub mod Kinds
+pub mod Symbol
+pub mod Nodes
+pub mod Expressions
+pub mod Declarations
+pub mod Statements
+pub mod Items
+pub mod Program
