@@ -1,0 +1,5 @@
+pub mod Sets
+pub mod Fronts
+pub mod Exact
+pub mod Levels
+pub mod Rules

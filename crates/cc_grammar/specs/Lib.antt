@@ -7,3 +7,6 @@ pub mod Declarations
 pub mod Statements
 pub mod Items
 pub mod Program
+pub mod Reading
+pub mod Endings
+pub mod ReadExpressions

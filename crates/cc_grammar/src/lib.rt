@@ -7,4 +7,4 @@ mod fault;
 mod parts;
 
 pub use fault::Fault;
-pub use parts::{Block, Counter, Ending, Header, Name, Number, Pointer, Slot, Spec};
+pub use parts::{Block, Counter, Ending, Header, Name, Number, Pointer, Precedence, Slot, Spec};

@@ -77,3 +77,20 @@ pub enum Ending {
     /// As neither.
     Neither,
 }
+
+/// How tightly operators bind, from the loosest to the tightest.
+#[derive(Clone, Copy, Debug, PartialEq, Eq)]
+pub enum Precedence {
+    /// `||`
+    Or,
+    /// `&&`
+    And,
+    /// `==` and `!=`
+    Equality,
+    /// `<`, `<=`, `>` and `>=`
+    Order,
+    /// `+` and `-`
+    Sum,
+    /// `*`, `/` and `%`
+    Product,
+}
