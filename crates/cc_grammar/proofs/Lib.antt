@@ -3,3 +3,4 @@ pub mod Fronts
 pub mod Exact
 pub mod Levels
 pub mod Rules
+pub mod Same

@@ -1,6 +1,6 @@
 -- What it is that a reader reads a symbol, one lemma for each way in which symbols are put together. So each symbol of the grammar
 -- is one line, which follows its definition, and what there is to show of it are facts on sets of kinds, which compute.
-use Rattle.std.proofs.Common.{◌≡◌, ℕ, zero, suc, pred, Bool, true, false, ◌&&◌, cond, List, [], ◌∷◌, ◌++◌, Option, Some, None, length, inl, inr, refl, ap, subst}
+use Rattle.std.proofs.Common.{◌≡◌, ℕ, zero, suc, pred, Bool, true, false, ◌&&◌, cond, List, [], ◌∷◌, ◌++◌, Option, Some, None, ◌⊎◌, inl, inr, refl, ap, subst}
 use Rattle.cc_lexer.specs.declared.token.TokenKind.{TokenKind}
 use Rattle.cc_lexer.specs.declared.token.TokenKind.TheVariants as k
 use Rattle.cc_lexer.specs.declared.token.Keyword.{Keyword}
@@ -11,6 +11,7 @@ use Rattle.cc_grammar.specs.Symbol.{Symbol}
 use Rattle.cc_grammar.specs.Symbol as g
 use Rattle.cc_grammar.specs.Reading.{Reader, choose, choose_by, at_word, at_mark}
 use Rattle.cc_grammar.specs.Reading as r
+use Rattle.cc_grammar.proofs.Sets.{apart_none}
 use Rattle.cc_grammar.proofs.Fronts.{Fronts}
 use Rattle.cc_grammar.proofs.Fronts as fronts
 use Rattle.cc_grammar.proofs.Exact.{Exact, onward}
@@ -138,20 +139,20 @@ more_levels : {A : Type 0} {n : ℕ} {o p : Reader A} {s : Symbol A} → Levels 
 more_levels l = record { more = λ i. l.more tt; deep = λ i. l.deep tt }
 
 -- a token that opens a level, and what stands within it
-pub nested : {A : Type 0} {v q : ℕ → Reader A} {t : ℕ → Symbol A} {f g : Kinds} {e : Bool} (n : ℕ) (kind : TokenKind)
-    → (IsPositive n → (line : ℕ) → Reads (pred n) (v line) (q line) (t line) f g e)
-    → Reads n (r.◌>>=◌ (r.opening (pred n) kind) v) (r.◌>>=◌ (r.opening n kind) q) (g.◌>>=◌ (g.opening n kind) t) (code kind ∷ []) (g ++ cond e [] []) false
+pub nested : {A : Type 0} {v q : ℕ → Reader A} {t : ℕ → Symbol A} {f goes : Kinds} {e : Bool} (n : ℕ) (kind : TokenKind)
+    → (IsPositive n → (line : ℕ) → Reads (pred n) (v line) (q line) (t line) f goes e)
+    → Reads n (r.◌>>=◌ (r.opening (pred n) kind) v) (r.◌>>=◌ (r.opening n kind) q) (g.◌>>=◌ (g.opening n kind) t) (code kind ∷ []) (goes ++ cond e [] []) false
 unfolding r.opening
 nested {q = q} {t = t} zero kind u = record { fronts = fronts.closed t; exact = exact.closed kind q t _; levels = least }
-nested {v = v} {q = q} {t = t} (suc zero) kind u =
-    let l = exact.seq (fronts.token (code kind) (λ t. t.line)) (λ x. (u tt x).fronts) (exact.token (code kind) (λ t. t.line)) (λ x. (u tt x).exact) refl in
+nested {v = v} {q = q} {t = t} {f = f} (suc zero) kind u =
+    let l = exact.seq (fronts.token (code kind) (λ t. t.line)) (λ x. (u tt x).fronts) (exact.token (code kind) (λ t. t.line)) (λ x. (u tt x).exact) (apart_none f) in
     record {
       fronts = fronts.seq (fronts.token (code kind) (λ t. t.line)) (λ x. (u tt x).fronts);
       exact = l;
       levels = levels.opened kind v q t (λ line a. (u tt line).fronts.none a) (λ a. onward l a);
     }
-nested (suc (suc n)) kind u = record {
+nested {f = f} (suc (suc n)) kind u = record {
   fronts = fronts.seq (fronts.token (code kind) (λ t. t.line)) (λ x. (u tt x).fronts);
-  exact = exact.seq (fronts.token (code kind) (λ t. t.line)) (λ x. (u tt x).fronts) (exact.token (code kind) (λ t. t.line)) (λ x. (u tt x).exact) refl;
+  exact = exact.seq (fronts.token (code kind) (λ t. t.line)) (λ x. (u tt x).fronts) (exact.token (code kind) (λ t. t.line)) (λ x. (u tt x).exact) (apart_none f);
   levels = levels.seq (levels.token (code kind) (λ t. t.line)) (λ x. more_levels (u tt x).levels) (exact.token (code kind) (λ t. t.line)) (λ x. (u tt x).exact);
 }

@@ -95,3 +95,7 @@ begins_right ms ns (t ∷ a) h = has-append ms ns (code t.kind) ∙ or_true_righ
 pub begins_either : (ms ns : Kinds) (a : Lexemes) → Begins (ms ++ ns) a → Begins ms a ⊎ Begins ns a
 begins_either ms ns [] h = cc
 begins_either ms ns (t ∷ a) h = or_true (has ms (code t.kind)) (has ns (code t.kind)) (sym (has-append ms ns (code t.kind)) ∙ h)
+
+pub apart_none : (ms : Kinds) → are_apart ms [] ≡ true
+apart_none [] = refl
+apart_none (m ∷ ms) = apart_none ms
