@@ -4,3 +4,4 @@ pub mod Exact
 pub mod Levels
 pub mod Rules
 pub mod Same
+pub mod ExpressionLaws

@@ -20,19 +20,18 @@ use Rattle.cc_grammar.specs.declared.parts.Precedence.TheVariants.{Or, And, Equa
 use Rattle.cc_grammar.specs.Kinds.{Kinds, kinds}
 use Rattle.cc_grammar.specs.Nodes.{node, chained, linked, prefixed, posted, named, member_of, args_of}
 use Rattle.cc_grammar.specs.Endings.{ending}
-use Rattle.cc_grammar.specs.Reading.{Reader, word, mark, open_mark, name, number, pure, ◌>>=◌, ◌>>◌, choose, many, opt, has_word, at_word, at_mark, refuse, too_deep}
+use Rattle.cc_grammar.specs.Reading.{Reader, word, mark, open_mark, name, number, pure, ◌>>=◌, ◌>>◌, choose, many, opt, has_word, at_word, at_mark, at_name, at_number, refuse, too_deep}
 
 -- ---- sets of kinds: what begins a symbol, and with what a whole one may go on
 
 abbrev pub first_root : Kinds
 first_root = kinds (k.Name ∷ k.Word This ∷ k.Mark m.OpenParen ∷ [])
 
+abbrev pub first_prim : Kinds
+first_prim = kinds (k.Int (pos 0) ∷ k.Word Null ∷ []) ++ first_root
+
 abbrev pub first_expr : Kinds
-first_expr =
-    kinds (
-      k.Int (pos 0) ∷ k.Name ∷ k.Word Null ∷ k.Word This ∷ k.Word New ∷ k.Mark m.OpenParen ∷ k.Mark m.Minus ∷ k.Mark m.Not ∷ k.Mark m.Star
-        ∷ k.Mark m.Ampersand ∷ []
-    )
+first_expr = kinds (k.Mark m.Minus ∷ k.Mark m.Not ∷ k.Mark m.Star ∷ k.Mark m.Ampersand ∷ k.Word New ∷ []) ++ first_prim
 
 abbrev pub first_tail : Kinds
 first_tail = kinds (k.Mark m.OpenBracket ∷ k.Mark m.Dot ∷ k.Mark m.Arrow ∷ [])
@@ -194,7 +193,7 @@ module _ (n : ℕ) (expr unary : Reader Expr) where
     pure (node e.This line)
 
   unfoldable pub root : Reader Expr
-  root = choose (kinds (k.Name ∷ [])) named_root (choose (at_word This) this paren)
+  root = choose at_name named_root (choose (at_word This) this paren)
 
   unfoldable pub literal : Reader Expr
   literal = do
@@ -207,7 +206,7 @@ module _ (n : ℕ) (expr unary : Reader Expr) where
     pure (node e.Null line)
 
   unfoldable pub prim : Reader Expr
-  prim = choose (kinds (k.Int (pos 0) ∷ [])) literal (choose (at_word Null) null root)
+  prim = choose at_number literal (choose (at_word Null) null root)
 
   unfoldable pub prefix : Mark → UnaryOp → Reader Expr
   prefix m op = do

@@ -1,5 +1,5 @@
 -- Reading, token by token.
-use Rattle.std.specs.Prelude.{◌≡◌, ℕ, zero, suc, Bool, true, false, if◌then◌else◌, List, [], ◌∷◌, ◌++◌, length, Option, Some, None, Result, Ok, Err, ◌≢◌}
+use Rattle.std.specs.Prelude.{◌≡◌, ℕ, zero, suc, pos, Bool, true, false, if◌then◌else◌, List, [], ◌∷◌, ◌++◌, length, Option, Some, None, Result, Ok, Err, ◌≢◌}
 use Rattle.cc_lexer.specs.declared.token.TokenKind.{TokenKind}
 use Rattle.cc_lexer.specs.declared.token.TokenKind.TheVariants as k
 use Rattle.cc_lexer.specs.declared.token.Keyword.{Keyword}
@@ -87,6 +87,15 @@ at_word w = code (k.Word w) ∷ []
 
 abbrev pub at_mark : Mark → Kinds
 at_mark m = code (k.Mark m) ∷ []
+
+abbrev pub at_name : Kinds
+at_name = code k.Name ∷ []
+
+abbrev pub at_number : Kinds
+at_number = code (k.Int (pos 0)) ∷ []
+
+abbrev pub at_string : Kinds
+at_string = code k.Str ∷ []
 
 -- by the next token
 abbrev pub choose : {A : Type 0} → Kinds → Reader A → Reader A → Reader A
