@@ -5,3 +5,4 @@ pub mod Levels
 pub mod Rules
 pub mod Same
 pub mod ExpressionLaws
+pub mod Chains
