@@ -6,3 +6,4 @@ pub mod Rules
 pub mod Same
 pub mod ExpressionLaws
 pub mod Chains
+pub mod DeclarationLaws

@@ -1,8 +1,9 @@
 -- Symbols that spell the same, with the same fronts.
-use Rattle.std.proofs.Common.{◌≡◌, Bool, inl, inr, refl, ◌∙◌, sym}
+use Rattle.std.proofs.Common.{◌≡◌, Bool, true, false, inl, inr, refl, ◌∙◌, sym}
 use Rattle.cc_grammar.specs.Lexeme.{Lexemes}
 use Rattle.cc_grammar.specs.Kinds.{Kinds}
-use Rattle.cc_grammar.specs.Symbol.{Symbol, pure, ◌>>=◌, ◌>>◌, ◌or◌}
+use Rattle.cc_lexer.specs.declared.token.Keyword.{Keyword}
+use Rattle.cc_grammar.specs.Symbol.{Symbol, word, pure, ◌>>=◌, ◌>>◌, ◌or◌, has_word}
 use Rattle.cc_grammar.specs.Reading.{Reader}
 use Rattle.cc_grammar.proofs.Fronts.{Fronts}
 use Rattle.cc_grammar.proofs.Exact.{Exact}
@@ -165,3 +166,12 @@ unit x t none = record {
 -- a value and the symbol that closes it, as one
 pub closing : {A B C : Type 0} (s : Symbol A) (t : Symbol B) (u : A → Symbol C) → ((x : A) (a : Lexemes) → (u x).front a a) → Same (s >>= (λ x. t >> u x)) ((s >>= (λ x. t >> pure x)) >>= u)
 closing s t u none = back (nest s (λ x. t >> pure x) u then under s (λ x. nest t (λ _. pure x) u then under t (λ _. unit x u (none x))))
+
+-- the same behind a first symbol
+pub closing_in : {A B C D : Type 0} (o : Symbol D) (s : Symbol A) (t : Symbol B) (u : A → Symbol C) → ((x : A) (a : Lexemes) → (u x).front a a)
+    → Same (o >> (s >>= (λ x. t >> u x))) ((o >> (s >>= (λ x. t >> pure x))) >>= u)
+closing_in o s t u none = back (nest o (λ _. s >>= (λ x. t >> pure x)) u then under o (λ _. back (closing s t u none)))
+
+-- a word that may be missing
+pub flagged : {A : Type 0} (w : Keyword) (u : Bool → Symbol A) → ((b : Bool) (a : Lexemes) → (u b).front a a) → Same (has_word w >>= u) ((word w >> u true) or u false)
+flagged w u none = spread (word w >> pure true) (pure false) u then same_or (nest (word w) (λ _. pure true) u then under (word w) (λ _. unit true u (none true))) (unit false u (none false))

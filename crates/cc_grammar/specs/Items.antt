@@ -71,13 +71,19 @@ fields n = do
 unfoldable pub member : ℕ → Symbol (List Member)
 member n = label or build n or (atomic_method n or method n) or fields n
 
+-- { Member }
+unfoldable pub member_list : ℕ → Symbol (List Member)
+member_list n = do
+  xss ← many (member n)
+  pure (joined xss)
+
 -- '{' { Member } '}'
 unfoldable pub members : ℕ → Symbol (List Member)
 members n = do
   open_mark n m.OpenBrace
-  xss ← many (member (pred n))
+  xs ← member_list (pred n)
   mark m.CloseBrace
-  pure (joined xss)
+  pure xs
 
 -- ---- items
 

@@ -10,3 +10,6 @@ pub mod Program
 pub mod Reading
 pub mod Endings
 pub mod ReadExpressions
+pub mod ReadDeclarations
+pub mod ReadStatements
+pub mod ReadItems
