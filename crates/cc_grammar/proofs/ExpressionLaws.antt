@@ -20,7 +20,7 @@ use Rattle.cc_grammar.proofs.Levels.{IsPositive}
 use Rattle.cc_grammar.proofs.Rules.{Reads, word, mark, name, number, pure, seq, either, many, declared, kept, or_else, opt, has_word, nested, alone}
 use Rattle.cc_grammar.proofs.Same.{Same, by_same, factor}
 
-dot : {n : ℕ} → Reads n r.dot r.dot g.dot (kinds (k.Mark m.Dot ∷ k.Mark m.Arrow ∷ [])) [] false
+pub dot : {n : ℕ} → Reads n r.dot r.dot g.dot (kinds (k.Mark m.Dot ∷ k.Mark m.Arrow ∷ [])) [] false
 unfolding r.dot
 dot = either (kept _ (mark m.Dot)) (kept _ (mark m.Arrow)) refl
 

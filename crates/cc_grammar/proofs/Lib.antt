@@ -7,3 +7,4 @@ pub mod Same
 pub mod ExpressionLaws
 pub mod Chains
 pub mod DeclarationLaws
+pub mod PlaceLaws

@@ -175,3 +175,15 @@ closing_in o s t u none = back (nest o (λ _. s >>= (λ x. t >> pure x)) u then 
 -- a word that may be missing
 pub flagged : {A : Type 0} (w : Keyword) (u : Bool → Symbol A) → ((b : Bool) (a : Lexemes) → (u b).front a a) → Same (has_word w >>= u) ((word w >> u true) or u false)
 flagged w u none = spread (word w >> pure true) (pure false) u then same_or (nest (word w) (λ _. pure true) u then under (word w) (λ _. unit true u (none true))) (unit false u (none false))
+
+-- a symbol, and then no token
+from_pure : {A : Type 0} (s : Symbol A) (a m b : Lexemes) (x z : A) → s.spells a m z → m ≡ b → z ≡ x → s.spells a b x
+from_pure s a m b x z h i j = rw (← i, ← j) h
+
+pub whole : {A : Type 0} {s : Symbol A} → Fronts s → Same s (s >>= pure)
+whole {s = s} l = record {
+  to = λ a b x h. (b, x, h, (refl, refl));
+  from = λ a b x (m, z, h, (i, j)). from_pure s a m b x z h i j;
+  front_to = λ a c h. inl h;
+  front_from = λ a c h. elim h [ inl i ↦ i | inr (m, x, i, j) ↦ rw (← j) (l.full a m x i) ];
+}
