@@ -8,3 +8,4 @@ pub mod ExpressionLaws
 pub mod Chains
 pub mod DeclarationLaws
 pub mod PlaceLaws
+pub mod Follows
