@@ -1,9 +1,10 @@
 -- Each symbol of types, parameters and declarations is read exactly.
-use Rattle.std.proofs.Common.{ℕ, pred, Bool, true, false, [], ◌∷◌, ◌++◌, None, refl, inl, inr}
+use Rattle.std.proofs.Common.{◌≡◌, ℕ, pred, Bool, true, false, ◌||◌, ◌&&◌, [], ◌∷◌, ◌++◌, None, ◌⊎◌, inl, inr, refl}
 use Rattle.cc_lexer.specs.declared.token.TokenKind.TheVariants as k
 use Rattle.cc_lexer.specs.declared.token.Keyword.TheVariants.{Int, Sync, Void, Global}
 use Rattle.cc_lexer.specs.declared.token.Mark.TheVariants as m
 use Rattle.cc_tree.specs.declared.expressions.Expr.{Expr}
+use Rattle.cc_tree.specs.declared.statements.Base.TheVariants as base
 use Rattle.cc_tree.specs.declared.statements.Start.TheVariants as start
 use Rattle.cc_tree.specs.declared.statements.Stmt.{Stmt}
 use Rattle.cc_grammar.specs.declared.parts.Name.{Name}
@@ -11,20 +12,22 @@ use Rattle.cc_grammar.specs.declared.parts.Pointer.{Pointer}
 use Rattle.cc_grammar.specs.declared.parts.Spec.{Spec}
 use Rattle.cc_grammar.specs.declared.parts.Slot.{Slot}
 use Rattle.cc_grammar.specs.Lexeme.{Lexemes}
-use Rattle.cc_grammar.specs.Kinds.{Kinds, kinds, code}
+use Rattle.cc_grammar.specs.Kinds.{Kinds, kinds, code, heads, tail_of, are_apart}
 use Rattle.cc_grammar.specs.Symbol.{Symbol, ◌>>=◌, ◌>>◌, ◌or◌}
 use Rattle.cc_grammar.specs.Symbol as y
-use Rattle.cc_grammar.specs.Nodes.{no_pointer, pointer, slot_of, declared}
-use Rattle.cc_grammar.specs.Reading.{at_mark, at_word, at_name}
+use Rattle.cc_grammar.specs.Nodes.{spec_of, pointer, slot_of, declared}
+use Rattle.cc_grammar.specs.Reading.{Reader, at_mark, at_word, at_name}
 use Rattle.cc_grammar.specs.Expressions as ge
 use Rattle.cc_grammar.specs.Declarations as g
 use Rattle.cc_grammar.specs.ReadExpressions as re
 use Rattle.cc_grammar.specs.ReadExpressions.{goes_expr}
 use Rattle.cc_grammar.specs.ReadDeclarations as r
-use Rattle.cc_grammar.specs.ReadDeclarations.{first_spec, first_var, goes_var}
+use Rattle.cc_grammar.specs.ReadDeclarations.{first_words, first_spec, first_var, goes_var, begins_decl}
+use Rattle.cc_grammar.proofs.Sets.{Begins, begins_apart}
 use Rattle.cc_grammar.proofs.Rules.{Reads, word, mark, name, pure, seq, either, many, kept, or_else, has_word, nested}
 use Rattle.cc_grammar.proofs.Rules as rules
-use Rattle.cc_grammar.proofs.Same.{Same, same, ◌then◌, back, same_or, under, before, factor, swap, regroup, nest, unit, flagged, by_same}
+use Rattle.cc_grammar.proofs.Same.{Same, same, ◌then◌, back, same_or, under, factor, spread, swap, regroup, nest, unit, flagged, by_same}
+use Rattle.cc_grammar.proofs.Follows.{Follows, MayBeName, follows_or, follows_same, follows_seq, follows_other, follows_name}
 use Rattle.cc_grammar.proofs.ExpressionLaws.{inner_expr, inner_unary, expr}
 use Rattle.cc_grammar.proofs.ExpressionLaws as expressions
 
@@ -132,3 +135,61 @@ module _ (n : ℕ) (b : Spec) where
 pub decl : (n : ℕ) → Reads n (r.decl (pred n)) (r.decl n) (g.decl n) first_spec (at_mark m.Comma ++ at_mark m.OpenBracket ++ goes_var) false
 unfolding r.decl re.commas re.after_comma g.decl
 decl n = rules.declared _ _ (seq spec (λ b. seq (var n b) (λ x. seq (many (seq (mark m.Comma) (λ _. var n b) refl) refl) (λ xs. pure _) refl) refl) refl) refl refl
+
+-- ---- what follows a name with which a declaration begins
+
+spec_same : {A : Type 0} (u : Spec → Symbol A) → ((b : Spec) (a : Lexemes) → (u b).front a a)
+    → Same (g.spec >>= u) (((y.word Int >>= (λ line. y.pure (spec_of base.Int line))) >>= u)
+      or (((y.word Sync >>= (λ line. y.word Int >> y.pure (spec_of base.SyncInt line))) >>= u)
+      or (((y.word Void >>= (λ line. y.pure (spec_of base.Void line))) >>= u) or (y.name >>= (λ t. u (spec_of (base.Named t.text) t.line))))))
+unfolding g.spec
+spec_same u none =
+    spread _ _ u then same_or (same _) (spread _ _ u then same_or (same _) (spread _ _ u then same_or (same _) (nest y.name _ u then under y.name (λ t. unit _ u (none _)))))
+
+-- what begins with a type
+pub follows_spec : {A : Type 0} {ks : Kinds} (u : Spec → Symbol A) → ((b : Spec) (a : Lexemes) → (u b).front a a) → ((b : Spec) (m c : Lexemes) → (u b).front m c → (m ≡ c) ⊎ Begins ks m) → ((b : Spec) (m c : Lexemes) (x : A) → (u b).spells m c x → Begins ks m)
+    → Follows ks (g.spec >>= u)
+follows_spec u none h k =
+    follows_same (spec_same u none) (
+      follows_or (follows_seq (follows_other (kept {n = 0} _ (word Int)) refl))
+      (follows_or (follows_seq (follows_other (seq {n = 0} (word Sync) (λ line. seq (word Int) (λ _. pure _) refl) refl) refl))
+      (follows_or (follows_seq (follows_other (kept {n = 0} _ (word Void)) refl)) (follows_name _ (λ t. h _) (λ t. k _))))
+    )
+
+-- the same, where what follows the type is read exactly
+pub follows_typed : {A : Type 0} {n : ℕ} {o p : Spec → Reader A} {u : Spec → Symbol A} {f goes : Kinds} → ((b : Spec) → Reads n (o b) (p b) (u b) f goes false) → Follows f (g.spec >>= u)
+follows_typed {u = u} l = follows_spec u (λ b. (l b).fronts.none) (λ b m c h. (l b).exact.begins m c h) (λ b m c x h. (l b).exact.some refl m c x h)
+
+pub spec_name : MayBeName g.spec
+unfolding g.spec
+spec_name t c h = inr (inr (inr (inl (inr (t, refl, h)))))
+
+pub decl_follows : (n : ℕ) → Follows first_var (g.decl n)
+unfolding g.decl
+decl_follows n = follows_typed (λ b. rules.declared first_var (at_mark m.Comma ++ at_mark m.OpenBracket ++ goes_var) (seq (var n b) (λ x. seq (many (seq (mark m.Comma) (λ _. var n b) refl) refl) (λ xs. pure _) refl) refl) refl refl)
+
+pub decl_name : (n : ℕ) → MayBeName (g.decl n)
+unfolding g.decl
+decl_name n t c h = inl (spec_name t c h)
+
+-- ---- the test for a declaration
+
+pub words_decl : (a : Lexemes) → Begins first_words a → begins_decl a ≡ true
+words_decl a h = rw h refl
+
+pub second_decl : (a : Lexemes) → heads at_name a ≡ true → Begins first_var (tail_of a) → begins_decl a ≡ true
+second_decl a h i = go (heads first_words a)
+  where
+    go : (b : Bool) → (b || (heads at_name a && heads first_var (tail_of a))) ≡ true
+    go true = refl
+    go false = rw (h, i) refl
+
+-- what begins otherwise, and goes on otherwise after a name, begins no declaration
+pub first_no_decl : (f : Kinds) (a : Lexemes) → are_apart f first_words ≡ true → Begins f a → heads at_name a ≡ false → begins_decl a ≡ false
+first_no_decl f a h i j = let v : heads first_words a ≡ false = begins_apart f first_words a h i in rw (v, j) refl
+
+pub second_no_decl : (f ks : Kinds) (a : Lexemes) → are_apart f first_words ≡ true → are_apart ks first_var ≡ true → Begins f a → heads at_name a ≡ true → Begins ks (tail_of a) → begins_decl a ≡ false
+second_no_decl f ks a h i j k l =
+    let v : heads first_words a ≡ false = begins_apart f first_words a h j in
+    let w : heads first_var (tail_of a) ≡ false = begins_apart ks first_var (tail_of a) i l in
+    rw (v, k, w) refl
