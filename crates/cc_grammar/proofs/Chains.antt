@@ -18,7 +18,7 @@ use Rattle.cc_grammar.proofs.Same.{Same, back, ◌then◌}
 
 -- ---- how nodes end
 
-name_place : (t : Name) → root_ending (named t None) ≡ Place
+pub name_place : (t : Name) → root_ending (named t None) ≡ Place
 unfolding root_ending out-ExprKind Carrier.out Carrier.roll
 name_place t = refl
 

@@ -9,3 +9,4 @@ pub mod Chains
 pub mod DeclarationLaws
 pub mod PlaceLaws
 pub mod Follows
+pub mod SimpleLaws
