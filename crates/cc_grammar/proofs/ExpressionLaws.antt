@@ -123,7 +123,7 @@ module _ (n : ℕ) (oe ou re ru : Reader Expr) (ge gu : Symbol Expr) (inner : Is
 
 -- ---- within so many levels
 
-none : {A : Type 0} → IsPositive zero → A
+pub none : {A : Type 0} → IsPositive zero → A
 none i = absurd i
 
 mutual

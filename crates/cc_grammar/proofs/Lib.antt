@@ -10,3 +10,4 @@ pub mod DeclarationLaws
 pub mod PlaceLaws
 pub mod Follows
 pub mod SimpleLaws
+pub mod StatementLaws
