@@ -11,3 +11,4 @@ pub mod PlaceLaws
 pub mod Follows
 pub mod SimpleLaws
 pub mod StatementLaws
+pub mod ItemLaws
