@@ -12,3 +12,4 @@ pub mod Follows
 pub mod SimpleLaws
 pub mod StatementLaws
 pub mod ItemLaws
+pub mod Top

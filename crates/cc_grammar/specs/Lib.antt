@@ -13,3 +13,4 @@ pub mod ReadExpressions
 pub mod ReadDeclarations
 pub mod ReadStatements
 pub mod ReadItems
+pub mod Places

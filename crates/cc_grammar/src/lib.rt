@@ -4,7 +4,9 @@
 #![tactic(auto)]
 
 mod fault;
+mod laws;
 mod parts;
 
 pub use fault::Fault;
+pub use laws::one_tree;
 pub use parts::{Block, Counter, Ending, Header, Name, Number, Pointer, Precedence, Slot, Spec};
