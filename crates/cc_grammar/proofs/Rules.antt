@@ -99,7 +99,7 @@ module _ {A : Type 0} {n : ℕ} {o p : Reader A} {s : Symbol A} {f g : Kinds} {e
   pub maybe : Reads n o p s f g e → Reads n o p s f g true
   maybe l = record { fronts = l.fronts; exact = exact.maybe l.exact; levels = l.levels }
 
-append_nil : {A : Type 0} (xs : List A) → xs ++ [] ≡ xs
+pub append_nil : {A : Type 0} (xs : List A) → xs ++ [] ≡ xs
 append_nil [] = refl
 append_nil (x ∷ xs) = ap (λ ys. x ∷ ys) (append_nil xs)
 

@@ -1,5 +1,5 @@
--- What the grammar reads: a token with its text.
-use Rattle.std.specs.Prelude.{ℕ, Bool, true, false, ◌==◌, if◌then◌else◌, ℤ, pos, List, [], ◌∷◌, map, slice_range}
+-- What the grammar reads: tokens with their bytes.
+use Rattle.std.specs.Prelude.{ℕ, ◌-◌, Bool, true, false, ◌==◌, if◌then◌else◌, ℤ, pos, List, [], ◌∷◌, length, take, drop, map, slice_range}
 use Rattle.cc_lexer.specs.declared.token.Token.{Token}
 use Rattle.cc_lexer.specs.declared.token.TokenKind.{TokenKind}
 use Rattle.cc_lexer.specs.declared.token.TokenKind.TheVariants as k
@@ -12,24 +12,24 @@ pub record Lexeme : Type 0 where
 abbrev pub Lexemes : Type 0
 Lexemes = List Lexeme
 
--- a token of a text
-abbrev pub lexeme : List ℕ → Token → Lexeme
-lexeme text t = record { kind = t.kind; text = slice_range text t.start t.end; line = t.line }
+abbrev pub token_text : List ℕ → Token → List ℕ
+token_text text token = slice_range text token.start token.end
 
 abbrev pub lexemes : List ℕ → List Token → Lexemes
-lexemes text tokens = map (lexeme text) tokens
+lexemes text tokens = map (λ token. record { kind = token.kind; text = token_text text token; line = token.line }) tokens
+
+abbrev pub escaped_byte : ℕ → ℕ
+escaped_byte b = if b == 110 then 10 else if b == 116 then 9 else b
+
+abbrev pub replaced_escapes : List ℕ → List ℕ
+replaced_escapes [] = []
+replaced_escapes (b ∷ []) = b ∷ []
+replaced_escapes (b ∷ c ∷ bs) = if b == 92 then escaped_byte c ∷ replaced_escapes bs else b ∷ replaced_escapes (c ∷ bs)
+
+abbrev pub unescaped : List ℕ → List ℕ
+unescaped text = replaced_escapes (drop 1 (take (length text - 1) text))
 
 -- the value of a decimal literal
 abbrev pub int_value : TokenKind → ℤ
 int_value (k.Int value) = value
 int_value _ = pos 0
-
--- the byte that an escape stands for: \n and \t, and any other byte for itself
-abbrev pub escape : ℕ → ℕ
-escape b = if b == 110 then 10 else if b == 116 then 9 else b
-
--- What a string stands for: its quotes are left out, and its escapes are replaced. The flag says that a backslash stands before.
-pub unescaped : Bool → List ℕ → List ℕ
-unescaped escaping [] = []
-unescaped true (b ∷ bs) = escape b ∷ unescaped false bs
-unescaped false (b ∷ bs) = if b == 92 then unescaped true bs else if b == 34 then unescaped false bs else b ∷ unescaped false bs

@@ -77,7 +77,7 @@ abbrev pub number : Reader Number
 number = token 1 (λ t. record { value = int_value t.kind; line = t.line })
 
 abbrev pub string : Reader (List ℕ)
-string = token 2 (λ t. unescaped false t.text)
+string = token 2 (λ t. unescaped t.text)
 
 -- ---- choices
 

@@ -99,7 +99,7 @@ number = token 1 (λ t. record { value = int_value t.kind; line = t.line })
 
 -- STR
 abbrev pub string : Symbol (List ℕ)
-string = token 2 (λ t. unescaped false t.text)
+string = token 2 (λ t. unescaped t.text)
 
 -- ---- notation
 

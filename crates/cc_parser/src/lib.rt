@@ -1,0 +1,4 @@
+//! The parser: the tree that the tokens of a text spell.
+#![tactic(auto)]
+
+mod cursor;
