@@ -1,1 +1,3 @@
 pub mod CursorLaws
+pub mod NestLaws
+pub mod RepeatLaws

@@ -2,3 +2,5 @@
 #![tactic(auto)]
 
 mod cursor;
+mod expressions;
+mod lists;
