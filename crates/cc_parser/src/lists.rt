@@ -1,16 +1,14 @@
 //! Repetitions.
 
-ghost use Rattle.std.specs.Prelude.{◌≡◌, Result};
-ghost use denote.Ref.{MutBor};
-ghost use Rattle.cc_grammar.specs.declared.fault.Fault.{Fault};
-ghost use Rattle.cc_grammar.specs.Lexeme.{Lexemes};
 ghost use Rattle.cc_grammar.specs.Kinds.{kinds};
 ghost use Rattle.cc_grammar.specs.Reading.{Gives, Reader};
 ghost use Rattle.cc_grammar.specs.Reading as reading;
+ghost use Rattle.cc_grammar.specs.ReadExpressions as read;
+ghost use Rattle.cc_parser.specs.Parts.{ReadsBy};
 
 use crate::cursor::Cursor;
 use cc_grammar::Fault;
-use cc_lexer::TokenKind;
+use cc_lexer::{Mark, TokenKind};
 use ccpp_edge::List;
 use std::alloc::Global;
 
@@ -22,10 +20,8 @@ pub fn many<T: Drop, P: Fn(&mut Cursor<'_>) -> Result<T, Fault>>(
     first: &[TokenKind],
     part: P,
 ) -> Result<List<T>, Fault>
-    ghost reader: { Reader T }
-    requires callable { (old : MutBor Lexemes) → P.pre part old }
-    requires reads { (old new : MutBor Lexemes) (r : Result T Fault) → P.post part old r new → Gives (reader old.now) r new.now }
-    ensures { Gives (reading.many (kinds first.now) reader tokens.old) result tokens.new }
+    requires { P.IsAlwaysCallable part }
+    ensures { (reader : Reader T) → ReadsBy (P.post part) reader → Gives (reading.many (kinds first.now) reader tokens.old) result tokens.new }
 {
     let mut found = List::new(alloc);
     for _turn in 0..tokens.left() {
@@ -35,4 +31,28 @@ pub fn many<T: Drop, P: Fn(&mut Cursor<'_>) -> Result<T, Fault>>(
         found.push(part(tokens)?)?;
     }
     Ok(found)
+}
+
+/// As many parts as there are, each behind a comma.
+#[tactic(auto, unfolding(cc_grammar::specs::ReadExpressions::commas, cc_grammar::specs::ReadExpressions::after_comma))]
+pub fn commas<T: Drop, P: Fn(&mut Cursor<'_>) -> Result<T, Fault>>(
+    alloc: Global,
+    tokens: &mut Cursor<'_>,
+    part: P,
+) -> Result<List<T>, Fault>
+    requires { P.IsAlwaysCallable part }
+    ensures { (reader : Reader T) → ReadsBy (P.post part) reader → Gives (read.commas reader tokens.old) result tokens.new }
+{
+    many(
+        alloc,
+        tokens,
+        &[TokenKind::Mark(Mark::Comma)],
+        |tokens: &mut Cursor<'_>| -> Result<T, Fault>
+            requires { P.IsAlwaysCallable part }
+            ensures { (reader : Reader T) → ReadsBy (P.post part) reader → Gives (read.after_comma reader tokens.old) result tokens.new }
+        {
+            tokens.mark(Mark::Comma)?;
+            part(tokens)
+        },
+    )
 }
