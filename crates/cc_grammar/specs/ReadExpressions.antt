@@ -310,20 +310,24 @@ unfoldable pub inner_unary : ℕ → Reader Expr
 inner_unary zero = too_deep
 inner_unary (suc n) = unary n
 
+-- a line within so many levels
+abbrev pub at_level : {A : Type 0} → (ℕ → Reader Expr → Reader Expr → Reader A) → ℕ → Reader A
+at_level line n = line n (inner_expr n) (inner_unary n)
+
 abbrev pub args_at : ℕ → Reader (List Expr)
-args_at n = args n (inner_expr n) (inner_unary n)
+args_at = at_level args
 
 abbrev pub maybe_bracketed_at : ℕ → Reader (Option Expr)
-maybe_bracketed_at n = maybe_bracketed n (inner_expr n) (inner_unary n)
+maybe_bracketed_at = at_level maybe_bracketed
 
 abbrev pub sum_at : ℕ → Reader Expr
-sum_at n = sum n (inner_expr n) (inner_unary n)
+sum_at = at_level sum
 
 abbrev pub deref : ℕ → Reader Expr
 deref n = prefix n (inner_expr n) (inner_unary n) m.Star unary_op.Deref
 
 abbrev pub place : ℕ → Reader Expr
-place n = place_line n (inner_expr n) (inner_unary n)
+place = at_level place_line
 
 abbrev pub call : ℕ → Reader Expr
-call n = call_line n (inner_expr n) (inner_unary n)
+call = at_level call_line

@@ -4,3 +4,4 @@
 mod cursor;
 mod expressions;
 mod lists;
+mod nodes;

@@ -7,6 +7,7 @@ ghost use Rattle.cc_grammar.specs.ReadExpressions as read;
 ghost use Rattle.cc_parser.specs.Parts.{ReadsBy};
 
 use crate::cursor::Cursor;
+use crate::nodes::with_front;
 use cc_grammar::Fault;
 use cc_lexer::{Mark, TokenKind};
 use ccpp_edge::List;
@@ -55,4 +56,23 @@ pub fn commas<T: Drop, P: Fn(&mut Cursor<'_>) -> Result<T, Fault>>(
             part(tokens)
         },
     )
+}
+
+/// Parts between commas, or none where a token of none of these kinds comes next.
+#[tactic(auto, unfolding(cc_grammar::specs::ReadExpressions::listed))]
+pub fn listed<T: Drop, P: Fn(&mut Cursor<'_>) -> Result<T, Fault>>(
+    alloc: Global,
+    tokens: &mut Cursor<'_>,
+    first: &[TokenKind],
+    part: P,
+) -> Result<List<T>, Fault>
+    requires { P.IsAlwaysCallable part }
+    ensures { (reader : Reader T) → ReadsBy (P.post part) reader → Gives (read.listed (kinds first.now) reader tokens.old) result tokens.new }
+{
+    if !tokens.at_any(first) {
+        return Ok(List::new(alloc));
+    }
+    let first = part(tokens)?;
+    let rest = commas(alloc, tokens, part)?;
+    Ok(with_front(alloc, first, rest)?)
 }
