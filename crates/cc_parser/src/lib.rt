@@ -5,3 +5,4 @@ mod cursor;
 mod expressions;
 mod lists;
 mod nodes;
+mod operators;
