@@ -160,6 +160,18 @@ impl<'a> Cursor<'a> {
         self.open(depth, TokenKind::Mark(mark))
     }
 
+    /// Takes this keyword where it comes next, and gives whether it did.
+    #[tactic(auto, unfolding(cc_grammar::specs::Reading::has_word))]
+    pub fn has_word(&mut self, word: Keyword) -> Result<bool, Fault>
+        ensures { Gives (reading.has_word word self.old) result self.new }
+    {
+        if self.at_word(word) {
+            self.word(word)?;
+            return Ok(true);
+        }
+        Ok(false)
+    }
+
     /// Takes a name, of which it makes the one copy.
     #[tactic(auto, using(crate::proofs::CursorLaws::token_fails, crate::proofs::CursorLaws::token_takes, crate::proofs::CursorLaws::first_fits, crate::proofs::CursorLaws::first_ascii))]
     pub fn name(&mut self, alloc: Global) -> Result<Name, Fault>

@@ -8,8 +8,9 @@ ghost use Rattle.cc_parser.specs.Nests.{Nests, within_level};
 
 use crate::cursor::Cursor;
 use crate::lists::{listed, many};
-use crate::nodes::{member_of, named, posted, prefixed};
-use cc_grammar::Fault;
+use crate::nodes::{boxed, member_of, named, posted, prefixed};
+use crate::operators::level;
+use cc_grammar::{Fault, Name, Precedence};
 use cc_lexer::{Keyword, Mark, TokenKind};
 use cc_tree::{Expr, ExprKind, Suffix, UnaryOp};
 use ccpp_edge::{Boxed, List};
@@ -181,5 +182,199 @@ impl<F: Fn(Global, &mut Cursor<'_>, usize, Form) -> Result<Expr, Fault>> Express
         let name = tokens.name(self.alloc)?;
         let args = self.maybe_args(tokens)?;
         Ok(named(name, args))
+    }
+
+    #[tactic(auto, unfolding(cc_grammar::specs::ReadExpressions::this))]
+    fn this(&self, tokens: &mut Cursor<'_>) -> Result<Expr, Fault>
+        requires { Nests self.now.depth (F.pre self.now.nested) (F.post self.now.nested) }
+        ensures { Gives (at_level read.this self.now.depth tokens.old) result tokens.new }
+    {
+        let line = tokens.word(Keyword::This)?;
+        Ok(Expr {
+            kind: ExprKind::This,
+            line,
+        })
+    }
+
+    /// What a chain of tails begins with.
+    #[tactic(auto, unfolding(cc_grammar::specs::ReadExpressions::root))]
+    fn root(&self, tokens: &mut Cursor<'_>) -> Result<Expr, Fault>
+        requires { Nests self.now.depth (F.pre self.now.nested) (F.post self.now.nested) }
+        ensures { Gives (at_level read.root self.now.depth tokens.old) result tokens.new }
+    {
+        if tokens.at(TokenKind::Name) {
+            return self.named_root(tokens);
+        }
+        if tokens.at_word(Keyword::This) {
+            return self.this(tokens);
+        }
+        self.paren(tokens)
+    }
+
+    #[tactic(auto, unfolding(cc_grammar::specs::ReadExpressions::literal))]
+    fn literal(&self, tokens: &mut Cursor<'_>) -> Result<Expr, Fault>
+        requires { Nests self.now.depth (F.pre self.now.nested) (F.post self.now.nested) }
+        ensures { Gives (at_level read.literal self.now.depth tokens.old) result tokens.new }
+    {
+        let number = tokens.number()?;
+        Ok(Expr {
+            kind: ExprKind::Int(number.value),
+            line: number.line,
+        })
+    }
+
+    #[tactic(auto, unfolding(cc_grammar::specs::ReadExpressions::null))]
+    fn null(&self, tokens: &mut Cursor<'_>) -> Result<Expr, Fault>
+        requires { Nests self.now.depth (F.pre self.now.nested) (F.post self.now.nested) }
+        ensures { Gives (at_level read.null self.now.depth tokens.old) result tokens.new }
+    {
+        let line = tokens.word(Keyword::Null)?;
+        Ok(Expr {
+            kind: ExprKind::Null,
+            line,
+        })
+    }
+
+    #[tactic(auto, unfolding(cc_grammar::specs::ReadExpressions::prim))]
+    fn prim(&self, tokens: &mut Cursor<'_>) -> Result<Expr, Fault>
+        requires { Nests self.now.depth (F.pre self.now.nested) (F.post self.now.nested) }
+        ensures { Gives (at_level read.prim self.now.depth tokens.old) result tokens.new }
+    {
+        if tokens.at(TokenKind::Int(0)) {
+            return self.literal(tokens);
+        }
+        if tokens.at_word(Keyword::Null) {
+            return self.null(tokens);
+        }
+        self.root(tokens)
+    }
+
+    /// An operator before its operand.
+    #[tactic(auto, unfolding(cc_grammar::specs::ReadExpressions::prefix))]
+    fn prefix(&self, tokens: &mut Cursor<'_>, mark: Mark, op: UnaryOp) -> Result<Expr, Fault>
+        requires { Nests self.now.depth (F.pre self.now.nested) (F.post self.now.nested) }
+        ensures { Gives (read.prefix self.now.depth (read.inner_expr self.now.depth) (read.inner_unary self.now.depth) mark op tokens.old) result tokens.new }
+    {
+        let line = tokens.open_mark(self.depth, mark)?;
+        let part = self.inner(tokens, Form::Unary)?;
+        Ok(prefixed(self.alloc, op, part, line)?)
+    }
+
+    #[tactic(auto, unfolding(cc_grammar::specs::ReadExpressions::new_object))]
+    fn new_object(&self, tokens: &mut Cursor<'_>, line: u32) -> Result<Expr, Fault>
+        requires { Nests self.now.depth (F.pre self.now.nested) (F.post self.now.nested) }
+        ensures { Gives (read.new_object self.now.depth (read.inner_expr self.now.depth) (read.inner_unary self.now.depth) line tokens.old) result tokens.new }
+    {
+        let Name { text: name, .. } = tokens.name(self.alloc)?;
+        let args = self.maybe_args(tokens)?;
+        let args = args.unwrap_or(List::new(self.alloc));
+        let kind = ExprKind::NewClass { name, args };
+        Ok(Expr { kind, line })
+    }
+
+    #[tactic(auto, unfolding(cc_grammar::specs::ReadExpressions::new_int))]
+    fn new_int(&self, tokens: &mut Cursor<'_>, line: u32) -> Result<Expr, Fault>
+        requires { Nests self.now.depth (F.pre self.now.nested) (F.post self.now.nested) }
+        ensures { Gives (read.new_int self.now.depth (read.inner_expr self.now.depth) (read.inner_unary self.now.depth) line tokens.old) result tokens.new }
+    {
+        let sync = tokens.has_word(Keyword::Sync)?;
+        tokens.word(Keyword::Int)?;
+        let length = self.maybe_bracketed(tokens)?;
+        let length = boxed(self.alloc, length)?;
+        let kind = ExprKind::NewInt { sync, length };
+        Ok(Expr { kind, line })
+    }
+
+    #[tactic(auto, unfolding(cc_grammar::specs::ReadExpressions::creation))]
+    fn creation(&self, tokens: &mut Cursor<'_>) -> Result<Expr, Fault>
+        requires { Nests self.now.depth (F.pre self.now.nested) (F.post self.now.nested) }
+        ensures { Gives (at_level read.creation self.now.depth tokens.old) result tokens.new }
+    {
+        let line = tokens.word(Keyword::New)?;
+        if tokens.at_any(&[TokenKind::Word(Keyword::Sync), TokenKind::Word(Keyword::Int)]) {
+            return self.new_int(tokens, line);
+        }
+        self.new_object(tokens, line)
+    }
+
+    #[tactic(auto, unfolding(cc_grammar::specs::ReadExpressions::postfix))]
+    fn postfix(&self, tokens: &mut Cursor<'_>) -> Result<Expr, Fault>
+        requires { Nests self.now.depth (F.pre self.now.nested) (F.post self.now.nested) }
+        ensures { Gives (at_level read.postfix self.now.depth tokens.old) result tokens.new }
+    {
+        let base = self.prim(tokens)?;
+        let tail = self.tails(tokens)?;
+        Ok(posted(self.alloc, base, tail)?)
+    }
+
+    #[tactic(auto, unfolding(cc_grammar::specs::ReadExpressions::unary_line))]
+    fn unary_line(&self, tokens: &mut Cursor<'_>) -> Result<Expr, Fault>
+        requires { Nests self.now.depth (F.pre self.now.nested) (F.post self.now.nested) }
+        ensures { Gives (at_level read.unary_line self.now.depth tokens.old) result tokens.new }
+    {
+        if tokens.at_mark(Mark::Minus) {
+            return self.prefix(tokens, Mark::Minus, UnaryOp::Neg);
+        }
+        if tokens.at_mark(Mark::Not) {
+            return self.prefix(tokens, Mark::Not, UnaryOp::Not);
+        }
+        if tokens.at_mark(Mark::Star) {
+            return self.prefix(tokens, Mark::Star, UnaryOp::Deref);
+        }
+        if tokens.at_mark(Mark::Ampersand) {
+            return self.prefix(tokens, Mark::Ampersand, UnaryOp::Address);
+        }
+        if tokens.at_word(Keyword::New) {
+            return self.creation(tokens);
+        }
+        self.postfix(tokens)
+    }
+
+    #[tactic(auto, unfolding(cc_grammar::specs::ReadExpressions::product))]
+    fn product(&self, tokens: &mut Cursor<'_>) -> Result<Expr, Fault>
+        requires { Nests self.now.depth (F.pre self.now.nested) (F.post self.now.nested) }
+        ensures { Gives (at_level read.product self.now.depth tokens.old) result tokens.new }
+    {
+        level(self.alloc, tokens, Precedence::Product, |tokens| self.unary_line(tokens))
+    }
+
+    #[tactic(auto, unfolding(cc_grammar::specs::ReadExpressions::sum))]
+    pub fn sum(&self, tokens: &mut Cursor<'_>) -> Result<Expr, Fault>
+        requires { Nests self.now.depth (F.pre self.now.nested) (F.post self.now.nested) }
+        ensures { Gives (at_level read.sum self.now.depth tokens.old) result tokens.new }
+    {
+        level(self.alloc, tokens, Precedence::Sum, |tokens| self.product(tokens))
+    }
+
+    #[tactic(auto, unfolding(cc_grammar::specs::ReadExpressions::order))]
+    fn order(&self, tokens: &mut Cursor<'_>) -> Result<Expr, Fault>
+        requires { Nests self.now.depth (F.pre self.now.nested) (F.post self.now.nested) }
+        ensures { Gives (at_level read.order self.now.depth tokens.old) result tokens.new }
+    {
+        level(self.alloc, tokens, Precedence::Order, |tokens| self.sum(tokens))
+    }
+
+    #[tactic(auto, unfolding(cc_grammar::specs::ReadExpressions::equal))]
+    fn equal(&self, tokens: &mut Cursor<'_>) -> Result<Expr, Fault>
+        requires { Nests self.now.depth (F.pre self.now.nested) (F.post self.now.nested) }
+        ensures { Gives (at_level read.equal self.now.depth tokens.old) result tokens.new }
+    {
+        level(self.alloc, tokens, Precedence::Equality, |tokens| self.order(tokens))
+    }
+
+    #[tactic(auto, unfolding(cc_grammar::specs::ReadExpressions::conjunction))]
+    fn conjunction(&self, tokens: &mut Cursor<'_>) -> Result<Expr, Fault>
+        requires { Nests self.now.depth (F.pre self.now.nested) (F.post self.now.nested) }
+        ensures { Gives (at_level read.conjunction self.now.depth tokens.old) result tokens.new }
+    {
+        level(self.alloc, tokens, Precedence::And, |tokens| self.equal(tokens))
+    }
+
+    #[tactic(auto, unfolding(cc_grammar::specs::ReadExpressions::expr_line))]
+    fn expr_line(&self, tokens: &mut Cursor<'_>) -> Result<Expr, Fault>
+        requires { Nests self.now.depth (F.pre self.now.nested) (F.post self.now.nested) }
+        ensures { Gives (at_level read.expr_line self.now.depth tokens.old) result tokens.new }
+    {
+        level(self.alloc, tokens, Precedence::Or, |tokens| self.conjunction(tokens))
     }
 }

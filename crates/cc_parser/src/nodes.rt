@@ -18,6 +18,16 @@ pub fn with_front<T: Drop>(alloc: Global, first: T, rest: List<T>) -> Result<Lis
     Ok(all)
 }
 
+/// What is there, on the heap.
+pub fn boxed<T: Drop>(alloc: Global, item: Option<T>) -> Result<Option<Boxed<T>>, AllocError>
+    ensures { IfOk result (λ boxed. boxed ≡ item) }
+{
+    match item {
+        None => Ok(None),
+        Some(item) => Ok(Some(Boxed::new(alloc, item)?)),
+    }
+}
+
 /// A name, alone or with arguments.
 pub fn named(name: Name, args: Option<List<Expr>>) -> Expr
     ensures { result ≡ nodes.named name args }
