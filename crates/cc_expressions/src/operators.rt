@@ -5,7 +5,7 @@ ghost use Rattle.cc_tree.specs.declared.expressions.Expr.{Expr};
 ghost use Rattle.cc_grammar.specs.Kinds as kinds_spec;
 ghost use Rattle.cc_grammar.specs.Reading.{Gives, Reader};
 ghost use Rattle.cc_grammar.specs.ReadExpressions as read;
-ghost use Rattle.cc_parser.specs.Parts.{ReadsBy};
+ghost use Rattle.cc_expressions.specs.Parts.{ReadsBy};
 
 use crate::cursor::Cursor;
 use crate::lists::many;

@@ -11,7 +11,7 @@ use Rattle.cc_lexer.specs.declared.token.TokenKind.TheVariants as k
 use Rattle.cc_grammar.specs.declared.fault.Fault.TheVariants.{Syntax, TooDeep}
 use Rattle.cc_grammar.specs.Lexeme.{Lexeme, Lexemes, lexemes, token_text, unescaped, replaced_escapes, escaped_byte}
 use Rattle.cc_grammar.specs.Kinds.{Kinds, code, kinds, has, heads, tail_of}
-use Rattle.cc_parser.specs.Fits.{Fits, AllFit, OfKind, IsUnit}
+use Rattle.cc_expressions.specs.Fits.{Fits, AllFit, OfKind, IsUnit}
 use Rattle.cc_grammar.specs.Reading.{Good, Failed, token, opening, itself}
 
 heads_none : (a : Lexemes) → heads [] a ≡ false

@@ -6,7 +6,7 @@ ghost use Rattle.cc_grammar.specs.Lexeme as lexeme;
 ghost use Rattle.cc_grammar.specs.Kinds as kinds_spec;
 ghost use Rattle.cc_grammar.specs.Reading as reading;
 ghost use Rattle.cc_grammar.specs.Reading.{Gives};
-ghost use Rattle.cc_parser.specs.Fits.{Fits, IsUnit};
+ghost use Rattle.cc_expressions.specs.Fits.{Fits, IsUnit};
 
 use cc_grammar::{Fault, Name, Number};
 use cc_lexer::{Keyword, Mark, Token, TokenKind};
@@ -24,7 +24,7 @@ pub struct Cursor<'a> {
 
 impl<'a> Model for Cursor<'a> {
     ghost use Rattle.cc_grammar.specs.Lexeme.{Lexemes, lexemes};
-    ghost use Rattle.cc_parser.specs.Fits.{AllFit};
+    ghost use Rattle.cc_expressions.specs.Fits.{AllFit};
 
     ghost Value = { Lexemes };
 

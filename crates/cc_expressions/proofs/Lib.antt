@@ -1,3 +1,5 @@
 pub mod CursorLaws
 pub mod NestLaws
 pub mod RepeatLaws
+pub mod EndingLaws
+pub mod FlatLaws

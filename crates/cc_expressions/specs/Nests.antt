@@ -7,8 +7,8 @@ use Rattle.cc_grammar.specs.declared.fault.Fault.{Fault}
 use Rattle.cc_grammar.specs.Lexeme.{Lexemes}
 use Rattle.cc_grammar.specs.Reading.{Reader, Gives}
 use Rattle.cc_grammar.specs.ReadExpressions.{expr, unary, inner_expr, inner_unary}
-use Rattle.cc_parser.specs.declared.expressions.Form.{Form}
-use Rattle.cc_parser.specs.declared.expressions.Form.TheVariants.{Whole, Unary}
+use Rattle.cc_expressions.specs.declared.expressions.Form.{Form}
+use Rattle.cc_expressions.specs.declared.expressions.Form.TheVariants.{Whole, Unary}
 
 -- an expression, or a unary alone
 abbrev pub within : ℕ → Form → Reader Expr

@@ -1,10 +1,11 @@
 //! Repetitions.
 
+ghost use Rattle.std.specs.Prelude.{List as ListOf};
 ghost use Rattle.cc_grammar.specs.Kinds.{kinds};
 ghost use Rattle.cc_grammar.specs.Reading.{Gives, Reader};
 ghost use Rattle.cc_grammar.specs.Reading as reading;
 ghost use Rattle.cc_grammar.specs.ReadExpressions as read;
-ghost use Rattle.cc_parser.specs.Parts.{ReadsBy};
+ghost use Rattle.cc_expressions.specs.Parts.{ReadsBy};
 
 use crate::cursor::Cursor;
 use crate::nodes::with_front;
@@ -30,6 +31,27 @@ pub fn many<T: Drop, P: Fn(&mut Cursor<'_>) -> Result<T, Fault>>(
             return Ok(found);
         }
         found.push(part(tokens)?)?;
+    }
+    Ok(found)
+}
+
+/// The same of parts that are lists, whose lists are put together.
+#[tactic(auto, using(crate::proofs::FlatLaws::flat_starts, crate::proofs::FlatLaws::flat_stops, crate::proofs::FlatLaws::flat_ends, crate::proofs::FlatLaws::flat_fails, crate::proofs::FlatLaws::flat_goes))]
+pub fn flat<T: Drop, P: Fn(&mut Cursor<'_>) -> Result<List<T>, Fault>>(
+    alloc: Global,
+    tokens: &mut Cursor<'_>,
+    first: &[TokenKind],
+    part: P,
+) -> Result<List<T>, Fault>
+    requires { P.IsAlwaysCallable part }
+    ensures { (reader : Reader (ListOf T)) → ReadsBy (P.post part) reader → Gives (reading.flat (kinds first.now) reader tokens.old) result tokens.new }
+{
+    let mut found = List::new(alloc);
+    for _turn in 0..tokens.left() {
+        if !tokens.at_any(first) {
+            return Ok(found);
+        }
+        found.append(part(tokens)?)?;
     }
     Ok(found)
 }

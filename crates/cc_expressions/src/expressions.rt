@@ -2,15 +2,17 @@
 
 ghost use Rattle.std.specs.Prelude.{◌≡◌, [], ◌∷◌, IfOk};
 ghost use Rattle.cc_grammar.specs.Reading.{Gives};
+ghost use Rattle.cc_grammar.specs.Endings as endings;
 ghost use Rattle.cc_grammar.specs.ReadExpressions as read;
 ghost use Rattle.cc_grammar.specs.ReadExpressions.{at_level};
-ghost use Rattle.cc_parser.specs.Nests.{Nests, within_level};
+ghost use Rattle.cc_expressions.specs.Nests as nests;
+ghost use Rattle.cc_expressions.specs.Nests.{Nests, within_level};
 
 use crate::cursor::Cursor;
 use crate::lists::{listed, many};
 use crate::nodes::{boxed, member_of, named, posted, prefixed};
 use crate::operators::level;
-use cc_grammar::{Fault, Name, Precedence};
+use cc_grammar::{Ending, Fault, Name, Precedence};
 use cc_lexer::{Keyword, Mark, TokenKind};
 use cc_tree::{Expr, ExprKind, Suffix, UnaryOp};
 use ccpp_edge::{Boxed, List};
@@ -66,7 +68,7 @@ fn dot(tokens: &mut Cursor<'_>) -> Result<bool, Fault>
 impl<F: Fn(Global, &mut Cursor<'_>, usize, Form) -> Result<Expr, Fault>> Expressions<F> {
     /// What stands within a level that is open.
     #[tactic(auto, using(crate::proofs::NestLaws::inner_zero, crate::proofs::NestLaws::inner_one))]
-    fn inner(&self, tokens: &mut Cursor<'_>, form: Form) -> Result<Expr, Fault>
+    pub fn inner(&self, tokens: &mut Cursor<'_>, form: Form) -> Result<Expr, Fault>
         requires { Nests self.now.depth (F.pre self.now.nested) (F.post self.now.nested) }
         ensures { Gives (within_level self.now.depth form tokens.old) result tokens.new }
     {
@@ -167,7 +169,7 @@ impl<F: Fn(Global, &mut Cursor<'_>, usize, Form) -> Result<Expr, Fault>> Express
 
     /// The tails of a postfix expression.
     #[tactic(auto, unfolding(cc_grammar::specs::ReadExpressions::tails))]
-    fn tails(&self, tokens: &mut Cursor<'_>) -> Result<List<Suffix>, Fault>
+    pub fn tails(&self, tokens: &mut Cursor<'_>) -> Result<List<Suffix>, Fault>
         requires { Nests self.now.depth (F.pre self.now.nested) (F.post self.now.nested) }
         ensures { Gives (at_level read.tails self.now.depth tokens.old) result tokens.new }
     {
@@ -198,7 +200,7 @@ impl<F: Fn(Global, &mut Cursor<'_>, usize, Form) -> Result<Expr, Fault>> Express
 
     /// What a chain of tails begins with.
     #[tactic(auto, unfolding(cc_grammar::specs::ReadExpressions::root))]
-    fn root(&self, tokens: &mut Cursor<'_>) -> Result<Expr, Fault>
+    pub fn root(&self, tokens: &mut Cursor<'_>) -> Result<Expr, Fault>
         requires { Nests self.now.depth (F.pre self.now.nested) (F.post self.now.nested) }
         ensures { Gives (at_level read.root self.now.depth tokens.old) result tokens.new }
     {
@@ -251,7 +253,7 @@ impl<F: Fn(Global, &mut Cursor<'_>, usize, Form) -> Result<Expr, Fault>> Express
 
     /// An operator before its operand.
     #[tactic(auto, unfolding(cc_grammar::specs::ReadExpressions::prefix))]
-    fn prefix(&self, tokens: &mut Cursor<'_>, mark: Mark, op: UnaryOp) -> Result<Expr, Fault>
+    pub fn prefix(&self, tokens: &mut Cursor<'_>, mark: Mark, op: UnaryOp) -> Result<Expr, Fault>
         requires { Nests self.now.depth (F.pre self.now.nested) (F.post self.now.nested) }
         ensures { Gives (read.prefix self.now.depth (read.inner_expr self.now.depth) (read.inner_unary self.now.depth) mark op tokens.old) result tokens.new }
     {
@@ -377,4 +379,91 @@ impl<F: Fn(Global, &mut Cursor<'_>, usize, Form) -> Result<Expr, Fault>> Express
     {
         level(self.alloc, tokens, Precedence::Or, |tokens| self.conjunction(tokens))
     }
+
+    /// A place: a `*` and its operand, or a chain that ends as one.
+    #[tactic(auto, unfolding(cc_grammar::specs::ReadExpressions::place_line, cc_grammar::specs::ReadExpressions::place_chain))]
+    pub fn place(&self, tokens: &mut Cursor<'_>) -> Result<Expr, Fault>
+        requires { Nests self.now.depth (F.pre self.now.nested) (F.post self.now.nested) }
+        ensures { Gives (at_level read.place_line self.now.depth tokens.old) result tokens.new }
+    {
+        if tokens.at_mark(Mark::Star) {
+            return self.prefix(tokens, Mark::Star, UnaryOp::Deref);
+        }
+        let base = self.root(tokens)?;
+        let tail = self.tails(tokens)?;
+        match ending(&base, tail.as_slice()) {
+            Ending::Place => Ok(posted(self.alloc, base, tail)?),
+            Ending::Call => Err(Fault::Syntax),
+            Ending::Neither => Err(Fault::Syntax),
+        }
+    }
+
+    /// A call: a chain that ends as one.
+    #[tactic(auto, unfolding(cc_grammar::specs::ReadExpressions::call_line))]
+    pub fn call(&self, tokens: &mut Cursor<'_>) -> Result<Expr, Fault>
+        requires { Nests self.now.depth (F.pre self.now.nested) (F.post self.now.nested) }
+        ensures { Gives (at_level read.call_line self.now.depth tokens.old) result tokens.new }
+    {
+        let base = self.root(tokens)?;
+        let tail = self.tails(tokens)?;
+        match ending(&base, tail.as_slice()) {
+            Ending::Place => Err(Fault::Syntax),
+            Ending::Call => Ok(posted(self.alloc, base, tail)?),
+            Ending::Neither => Err(Fault::Syntax),
+        }
+    }
+}
+
+/// An expression, or a unary alone, that opens at most `depth` levels.
+#[tactic(auto, using(crate::proofs::NestLaws::within_whole, crate::proofs::NestLaws::within_unary))]
+pub fn within(
+    alloc: Global,
+    tokens: &mut Cursor<'_>,
+    depth: usize,
+    form: Form,
+) -> Result<Expr, Fault>
+    ensures { Gives (nests.within depth form tokens.old) result tokens.new }
+{
+    let expressions = Expressions {
+        alloc,
+        depth,
+        nested: within,
+    };
+    match form {
+        Form::Whole => expressions.expr_line(tokens),
+        Form::Unary => expressions.unary_line(tokens),
+    }
+}
+
+#[tactic(auto, unfolding(cc_grammar::specs::Endings::root_ending))]
+fn root_ending(base: &Expr) -> Ending
+    ensures { result ≡ endings.root_ending base.now }
+{
+    match &base.kind {
+        ExprKind::Name(_) => Ending::Place,
+        ExprKind::Call { .. } => Ending::Call,
+        _ => Ending::Neither,
+    }
+}
+
+#[tactic(auto, unfolding(cc_grammar::specs::Endings::tail_ending))]
+fn tail_ending(last: &Suffix) -> Ending
+    ensures { result ≡ endings.tail_ending last.now }
+{
+    match last {
+        Suffix::Index(_) => Ending::Place,
+        Suffix::Field { .. } => Ending::Place,
+        Suffix::CallOn { .. } => Ending::Call,
+    }
+}
+
+/// How a root with these tails ends.
+#[tactic(auto, using(crate::proofs::EndingLaws::ending_none, crate::proofs::EndingLaws::ending_last))]
+pub fn ending(base: &Expr, tail: &[Suffix]) -> Ending
+    ensures { result ≡ endings.ending base.now tail.now }
+{
+    if tail.is_empty() {
+        return root_ending(base);
+    }
+    tail_ending(&tail[tail.len() - 1])
 }

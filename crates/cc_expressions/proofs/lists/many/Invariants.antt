@@ -1,10 +1,10 @@
 use Rattle.std.proofs.Common.{◌≡◌, ◌-◌, length}
 use Rattle.cc_grammar.specs.Kinds.{kinds}
 use Rattle.cc_grammar.specs.Reading.{Reader, many_from}
-use Rattle.cc_parser.specs.Parts.{ReadsBy}
-use Rattle.cc_parser.specs.contracts.lists.many.P-Fn as part
-use Rattle.cc_parser.proofs.RepeatLaws.{with_front}
-use Rattle.cc_parser.proofs.lists.many.Given as goal
+use Rattle.cc_expressions.specs.Parts.{ReadsBy}
+use Rattle.cc_expressions.specs.contracts.lists.many.P-Fn as part
+use Rattle.cc_expressions.proofs.RepeatLaws.{with_front}
+use Rattle.cc_expressions.proofs.lists.many.Given as goal
 
 abbrev pub invariant-loop-turn : goal.invariant-loop-turn
 invariant-loop-turn g l =
