@@ -1,3 +1,5 @@
+ghost use Rattle.std.specs.Prelude.{◌≡◌, ◌≤◌, length};
+
 use std::alloc::AllocError;
 use thiserror::Error;
 
@@ -36,4 +38,12 @@ impl From<AllocError> for LexFault {
     fn from(_: AllocError) -> LexFault {
         LexFault::Memory
     }
+}
+
+/// The place at which the text goes on behind these bytes.
+pub fn place(before: &[u8]) -> u32
+    requires { length before.now ≤ 1048576 }
+    ensures { result ≡ length before.now }
+{
+    before.len() as u32
 }

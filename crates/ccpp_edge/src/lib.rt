@@ -3,11 +3,26 @@
 #![tactic(auto)]
 
 mod boxed;
+mod calls;
+mod gate;
 mod items;
+mod mem_shelf;
+mod mem_sink;
+mod real;
+mod shelf;
+mod sink;
+#[cfg(test)]
+mod tests;
 mod text;
 
 pub use boxed::Boxed;
+pub use gate::{Gate, OpenGate};
 pub use items::{Bytes, List};
+pub use mem_shelf::{MemShelf, NamedBytes};
+pub use mem_sink::MemSink;
+pub use real::{RealShelf, RealSink};
+pub use shelf::{Shelf, ShelfFault};
+pub use sink::{Sink, SinkFault};
 pub use text::Text;
 
 /// Want of memory. It may come from every call that grows something, and no contract says when.

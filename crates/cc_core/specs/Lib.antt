@@ -1,0 +1,14 @@
+pub mod Names
+pub mod Core
+pub mod Asks
+pub mod Next
+pub mod Config
+pub mod Needs
+pub mod Effects
+pub mod Steps
+pub mod Report
+pub mod Laws
+pub mod Source
+pub mod Numbers
+pub mod Types
+pub mod View

@@ -1,0 +1,14 @@
+pub mod Classes
+pub mod OneKind
+pub mod Insides
+pub mod Moves
+pub mod Outcomes
+pub mod Blanks
+pub mod Decimals
+pub mod Views
+pub mod Apart
+pub mod MarkFronts
+pub mod Strings
+pub mod Steps
+pub mod Fronts
+pub mod Longest

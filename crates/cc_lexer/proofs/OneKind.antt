@@ -1,0 +1,73 @@
+-- A text is spelled like a token of one kind at most.
+use Rattle.std.proofs.Common.{◌≡◌, ◌↔◌, ℕ, Bool, true, false, cond, List, [], ◌∷◌, Option, Some, None, pos, refl, ap, sym, ◌∙◌}
+use Rattle.std.proofs.lemmas.Slice.Eq.{bytes_eq-Decides}
+use Rattle.std.specs.Prelude.{find}
+use Rattle.std.specs.Str.{bytes_eq}
+use Rattle.cc_lexer.specs.declared.token.Keyword.{Keyword}
+use Rattle.cc_lexer.specs.declared.token.Keyword.TheVariants as keyword
+use Rattle.cc_lexer.specs.declared.token.Mark.{Mark}
+use Rattle.cc_lexer.specs.declared.token.Mark.TheVariants as mark
+use Rattle.cc_lexer.specs.declared.token.TokenKind.{TokenKind}
+use Rattle.cc_lexer.specs.declared.token.TokenKind.TheVariants.{Name, Int, Str, Word, Mark as Marked}
+use Rattle.cc_lexer.specs.Spelling.{Text, keyword_text, mark_text, Spells}
+use Rattle.cc_lexer.proofs.Classes.{class_of, first_class, spelled_class}
+
+abbrev pub keywords : List Keyword
+keywords = keyword.Atomic ∷ keyword.Break ∷ keyword.Class ∷ keyword.Const ∷ keyword.Continue ∷ keyword.Cout ∷ keyword.Else ∷ keyword.Endl ∷ keyword.For ∷ keyword.Global ∷ keyword.If ∷ keyword.Int ∷ keyword.New ∷ keyword.Null ∷ keyword.Par ∷ keyword.Parfor ∷ keyword.Private ∷ keyword.Public ∷ keyword.Return ∷ keyword.Spawn ∷ keyword.Struct ∷ keyword.Sync ∷ keyword.This ∷ keyword.Void ∷ keyword.While ∷ []
+
+abbrev pub marks : List Mark
+marks = mark.OpenParen ∷ mark.CloseParen ∷ mark.OpenBrace ∷ mark.CloseBrace ∷ mark.OpenBracket ∷ mark.CloseBracket ∷ mark.Semicolon ∷ mark.Comma ∷ mark.Colon ∷ mark.Dot ∷ mark.Assign ∷ mark.Plus ∷ mark.Minus ∷ mark.Star ∷ mark.Slash ∷ mark.Percent ∷ mark.Less ∷ mark.Greater ∷ mark.Not ∷ mark.Ampersand ∷ mark.Arrow ∷ mark.Equal ∷ mark.NotEqual ∷ mark.LessEqual ∷ mark.GreaterEqual ∷ mark.And ∷ mark.Or ∷ mark.LessLess ∷ mark.PlusPlus ∷ mark.MinusMinus ∷ mark.PlusAssign ∷ mark.MinusAssign ∷ mark.StarAssign ∷ mark.SlashAssign ∷ mark.PercentAssign ∷ []
+
+abbrev pub keyword_of : Text → Option Keyword
+keyword_of text = find (λ word. bytes_eq (keyword_text word) text) keywords
+
+abbrev pub mark_of : Text → Option Mark
+mark_of text = find (λ m. bytes_eq (mark_text m) text) marks
+
+pub keyword_of_text : (word : Keyword) → keyword_of (keyword_text word) ≡ Some word
+keyword_of_text keyword.Atomic = refl
+keyword_of_text _ = refl
+
+pub mark_of_text : (m : Mark) → mark_of (mark_text m) ≡ Some m
+mark_of_text mark.OpenParen = refl
+mark_of_text _ = refl
+
+find_passes : {A : Type 0} (p : A → Bool) (xs : List A) (x : A) → find p xs ≡ Some x → p x ≡ true
+find_passes p [] x h = cc
+find_passes {A} p (y ∷ ys) x h = go (p y) refl h (λ f. find_passes p ys x f)
+  where
+    go : (b : Bool) → p y ≡ b → cond b (Some y) (find p ys) ≡ Some x → (find p ys ≡ Some x → p x ≡ true) → p x ≡ true
+    go true e f k = let s : y ≡ x = cc in rw s at e
+    go false e f k = k f
+
+pub keyword_found : (text : Text) (word : Keyword) → (keyword_of text ≡ Some word) ↔ (text ≡ keyword_text word)
+keyword_found text word = (
+  (λ h. sym ((bytes_eq-Decides (keyword_text word) text).0 (find_passes (λ w. bytes_eq (keyword_text w) text) keywords word h))),
+  (λ h. ap keyword_of h ∙ keyword_of_text word))
+
+pub mark_found : (text : Text) (m : Mark) → (mark_of text ≡ Some m) ↔ (text ≡ mark_text m)
+mark_found text m = (
+  (λ h. sym ((bytes_eq-Decides (mark_text m) text).0 (find_passes (λ w. bytes_eq (mark_text w) text) marks m h))),
+  (λ h. ap mark_of h ∙ mark_of_text m))
+
+pub mark_found_at : (text : Text) (r : Option Mark) → r ≡ mark_of text → (m : Mark) → (r ≡ Some m) ↔ (text ≡ mark_text m)
+mark_found_at text r e m = rw e (mark_found text m)
+
+same_keyword : (v w : Keyword) → keyword_text v ≡ keyword_text w → v ≡ w
+same_keyword v w e = let a = keyword_of_text v in let b = keyword_of_text w in let c = ap keyword_of e in cc
+
+same_mark : (m n : Mark) → mark_text m ≡ mark_text n → m ≡ n
+same_mark m n e = let a = mark_of_text m in let b = mark_of_text n in let c = ap mark_of e in cc
+
+of_one_class : (a c : TokenKind) (text : Text) → Spells a text → Spells c text → class_of a ≡ class_of c → a ≡ c
+of_one_class Name Name text h i e = refl
+of_one_class Name (Word w) text h i e = absurd (h.no_keyword w i)
+of_one_class (Word w) Name text h i e = absurd (i.no_keyword w h)
+of_one_class (Int v) (Int w) text h i e = cc (h.1, i.1)
+of_one_class Str Str text h i e = refl
+of_one_class (Word v) (Word w) text h i e = ap Word (same_keyword v w (sym h ∙ i))
+of_one_class (Marked m) (Marked n) text h i e = ap Marked (same_mark m n (sym h ∙ i))
+of_one_class _ _ text h i e = cc
+
+pub one_kind : (a c : TokenKind) (text : Text) → Spells a text → Spells c text → a ≡ c
+one_kind a c text h i = of_one_class a c text h i (sym (spelled_class a text h) ∙ spelled_class c text i)

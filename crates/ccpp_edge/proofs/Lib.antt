@@ -1,0 +1,4 @@
+pub mod CountLemmas
+pub mod FakeLemmas
+pub mod ShelfLemmas
+pub mod StreamLemmas

@@ -1,0 +1,2 @@
+#include <iostream.h>
+/* a */ int main() { return 0; } // b

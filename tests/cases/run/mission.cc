@@ -1,0 +1,1 @@
+int main() { cout << 2 + 3 * 4 << endl; return 7; }

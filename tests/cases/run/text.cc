@@ -1,0 +1,1 @@
+int main() { cout << "a\n" << 0 - 3; }
