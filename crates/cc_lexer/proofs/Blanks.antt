@@ -69,7 +69,7 @@ comment_feeds inside n b =
     let s : n + 4 ≡ suc (suc (n + 2)) = omega arith in
     let t : take (n + 2) inside ≡ take n inside ++ codes "*/" = take-add n 2 inside ∙ ap (λ u. take n inside ++ take 2 u) b.1 in
     let c : P (take n inside ++ codes "*/") ≡ P (take n inside) = sum_by-append (λ x. cond (is_line_feed x) 1 0) (take n inside) (codes "*/") ∙ add-zero (P (take n inside)) in
-    rw s (sum_by-cons (λ x. cond (is_line_feed x) 1 0) 47 (42 ∷ take (n + 2) inside) ∙ ap (λ k. 0 + k) (sum_by-cons (λ x. cond (is_line_feed x) 1 0) 42 (take (n + 2) inside)) ∙ rw (zero-add, zero-add) (ap P t ∙ c))
+    rw s (sum_by-cons (λ x. cond (is_line_feed x) 1 0) 47 (42 ∷ take (n + 2) inside) ∙ ap (λ k. 0 + k) (sum_by-cons (λ x. cond (is_line_feed x) 1 0) 42 (take (n + 2) inside)) ∙ zero-add _ ∙ zero-add (P (take (n + 2) inside)) ∙ ap P t ∙ c)
 
 -- ---- what is next
 
@@ -107,8 +107,8 @@ module _ (before here : Text) where
   no_include_next e h =
       let v = viewed here class.Hash e in
       bad_byte (omega (arith, ap length v.parts))
-          (λ n b. let w = only_include before here n b (λ f. cc) (λ f. cc) (λ f. cc) in h w.0 w.1)
-          (none_stands e) (no_comment here class.Hash e (λ f. cc)) (no_string here class.Hash e (λ f. cc))
+      (λ n b. let w = only_include before here n b (λ f. cc) (λ f. cc) (λ f. cc) in h w.0 w.1)
+      (none_stands e) (no_comment here class.Hash e (λ f. cc)) (no_string here class.Hash e (λ f. cc))
 
   module _ (inside : Text) (opened : class_at here ≡ class.Comment) (inside_is : inside ≡ drop 2 here) where
     pub comment_next : (n feeds : ℕ) → IsFirstPlace (codes "*/") inside n → feeds ≡ count_by is_line_feed (take n inside) → IsNext before here (Ok (piece.Blank (n + 4) feeds))

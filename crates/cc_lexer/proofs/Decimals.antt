@@ -3,6 +3,7 @@ use Rattle.std.proofs.Common.{◌≡◌, ℕ, ◌+◌, ◌-◌, ◌*◌, ◌^◌
 use Rattle.std.proofs.lemmas.List.Sums.{fold_more, fold-append}
 use Rattle.std.specs.Prelude.{SomeIff}
 use Rattle.cc_lexer.specs.Spelling.{Text, decimal_value}
+use Rattle.cc_lexer.specs.Cut.{largest_number}
 
 abbrev next_value : ℕ → ℕ → ℕ
 next_value value digit = 10 * value + (digit - 48)
@@ -22,7 +23,7 @@ value-take-le digits i =
     omega (arith, e, grows (decimal_value (take i digits)) (drop i digits))
 
 -- the digits up to one of them are too large, and so are all
-pub too_large : (digits : Text) (i : ℕ) (r : Option ℤ) → r ≡ None → i < length digits → 2 ^ 64 ≤ 10 * decimal_value (take i digits) + (get_or digits i 0 - 48) → SomeIff r (decimal_value digits ≤ 9223372036854775807) (pos (decimal_value digits))
+pub too_large : (digits : Text) (i : ℕ) (r : Option ℤ) → r ≡ None → i < length digits → 2 ^ 64 ≤ 10 * decimal_value (take i digits) + (get_or digits i 0 - 48) → SomeIff r (decimal_value digits ≤ largest_number) (pos (decimal_value digits))
 too_large digits i r none h large =
-    let small : decimal_value digits ≤ 9223372036854775807 → ⊥ = λ s. omega (arith, s, large, value_more digits i h, value-take-le digits (i + 1)) in
+    let small : decimal_value digits ≤ largest_number → ⊥ = λ s. omega (arith, s, large, value_more digits i h, value-take-le digits (i + 1)) in
     rw none small

@@ -5,7 +5,6 @@ use Rattle.std.proofs.lemmas.Bool.{and_parts, or_parts, cases_Bool, not-true}
 use Rattle.std.proofs.lemmas.List.{drop_at, append_assoc, length-take-le}
 use Rattle.cc_lexer.specs.Spelling.{Text, is_plain, is_escape, is_inside}
 use Rattle.cc_lexer.specs.Faults.{goes_on}
-use Rattle.cc_lexer.specs.String.{unit_length}
 use Rattle.std.proofs.Math.Seq.{take-add}
 
 -- how many bytes at the front are plain bytes and escapes
@@ -36,9 +35,9 @@ inside_len-append (b ∷ []) rest h i = after_plain b rest h ∙ ap suc (halted 
 inside_len-append (b ∷ c ∷ bs) rest h i = go (b == 92) refl h (λ k. inside_len-append bs rest k i) (λ k. inside_len-append (c ∷ bs) rest k i)
   where
     go : (x : Bool) → (b == 92) ≡ x → cond x (is_escape c && is_inside bs) (is_plain b && is_inside (c ∷ bs)) ≡ true
-       → (is_inside bs ≡ true → inside_len (bs ++ rest) ≡ length bs)
-       → (is_inside (c ∷ bs) ≡ true → inside_len (c ∷ (bs ++ rest)) ≡ suc (length bs))
-       → inside_len (b ∷ c ∷ (bs ++ rest)) ≡ suc (suc (length bs))
+        → (is_inside bs ≡ true → inside_len (bs ++ rest) ≡ length bs)
+        → (is_inside (c ∷ bs) ≡ true → inside_len (c ∷ (bs ++ rest)) ≡ suc (length bs))
+        → inside_len (b ∷ c ∷ (bs ++ rest)) ≡ suc (suc (length bs))
     go true e f k l = let w = and_parts (is_escape c) (is_inside bs) f in rw (e, w.0) (ap (λ n. suc (suc n)) (k w.1))
     go false e f k l = let w = and_parts (is_plain b) (is_inside (c ∷ bs)) f in rw (w.0, e) (ap suc (l w.1))
 
@@ -54,21 +53,6 @@ inside_once i j r s h k p q e =
 
 -- ---- one byte or escape after another
 
-unit_inside : (t : Text) → is_inside (take (unit_length t) t) ≡ true
-unit_inside [] = refl
-unit_inside (b ∷ []) = go (is_plain b) refl
-  where
-    go : (x : Bool) → is_plain b ≡ x → is_inside (take (cond x 1 0) (b ∷ [])) ≡ true
-    go true e = e
-    go false e = refl
-unit_inside (b ∷ c ∷ bs) = go (b == 92) refl (is_escape c) refl (is_plain b) refl
-  where
-    go : (x : Bool) → (b == 92) ≡ x → (y : Bool) → is_escape c ≡ y → (z : Bool) → is_plain b ≡ z → is_inside (take (cond x (cond y 2 0) (cond z 1 0)) (b ∷ c ∷ bs)) ≡ true
-    go true e true f z g = rw (e, f) refl
-    go true e false f z g = refl
-    go false e y f true g = g
-    go false e y f false g = refl
-
 is_inside-append : (a b : Text) → is_inside a ≡ true → is_inside b ≡ true → is_inside (a ++ b) ≡ true
 is_inside-append [] b h i = i
 is_inside-append (x ∷ []) [] h i = h
@@ -76,14 +60,14 @@ is_inside-append (x ∷ []) (y ∷ b) h i = rw (h, plain_no_backslash x h) i
 is_inside-append (x ∷ y ∷ a) b h i = go (x == 92) refl h (λ k. is_inside-append a b k i) (λ k. is_inside-append (y ∷ a) b k i)
   where
     go : (z : Bool) → (x == 92) ≡ z → cond z (is_escape y && is_inside a) (is_plain x && is_inside (y ∷ a)) ≡ true
-       → (is_inside a ≡ true → is_inside (a ++ b) ≡ true)
-       → (is_inside (y ∷ a) ≡ true → is_inside (y ∷ (a ++ b)) ≡ true)
-       → is_inside (x ∷ y ∷ (a ++ b)) ≡ true
+        → (is_inside a ≡ true → is_inside (a ++ b) ≡ true)
+        → (is_inside (y ∷ a) ≡ true → is_inside (y ∷ (a ++ b)) ≡ true)
+        → is_inside (x ∷ y ∷ (a ++ b)) ≡ true
     go true e f k l = let w = and_parts (is_escape y) (is_inside a) f in rw (e, w.0) (k w.1)
     go false e f k l = let w = and_parts (is_plain x) (is_inside (y ∷ a)) f in rw (w.0, e) (l w.1)
 
-pub inside_more : (here : Text) (n : ℕ) → is_inside (take n here) ≡ true → is_inside (take (n + unit_length (drop n here)) here) ≡ true
-inside_more here n h = rw (take-add n (unit_length (drop n here)) here) (is_inside-append (take n here) (take (unit_length (drop n here)) (drop n here)) h (unit_inside (drop n here)))
+pub inside_more : (here : Text) (n m : ℕ) → is_inside (take n here) ≡ true → is_inside (take m (drop n here)) ≡ true → is_inside (take (n + m) here) ≡ true
+inside_more here n m h i = rw (take-add n m here) (is_inside-append (take n here) (take m (drop n here)) h i)
 
 -- ---- a string at the front of a text
 

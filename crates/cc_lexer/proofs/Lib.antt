@@ -12,3 +12,4 @@ pub mod Strings
 pub mod Steps
 pub mod Fronts
 pub mod Longest
+pub mod Spans

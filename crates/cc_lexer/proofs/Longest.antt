@@ -15,7 +15,7 @@ use Rattle.cc_lexer.specs.declared.token.TokenKind.{TokenKind}
 use Rattle.cc_lexer.specs.declared.token.TokenKind.TheVariants.{Name, Int, Str, Word, Mark as Marked}
 use Rattle.cc_lexer.specs.declared.fault.LexFault.TheVariants.{BadByte, LongName, NumberTooLarge}
 use Rattle.cc_lexer.specs.Spelling.{Text, is_letter, is_digit, is_word_byte, is_word, is_number, keyword_text, IsName, Spells, decimal_value}
-use Rattle.cc_lexer.specs.Cut.{Begins, Stands, IsLongest}
+use Rattle.cc_lexer.specs.Cut.{Begins, Stands, IsLongest, longest_name, largest_number}
 use Rattle.cc_lexer.specs.Faults.{long_name, large_number, bad_byte}
 use Rattle.cc_lexer.specs.Next.{class_at, IsNext}
 use Rattle.cc_lexer.proofs.Classes.{class_of, word_is}
@@ -26,14 +26,16 @@ use Rattle.cc_lexer.proofs.Fronts.{front_passes, front_most}
 
 -- the longest token, where no token of this class is longer
 pub longest_of : (here : Text) (kind : TokenKind) (n : ℕ) → class_at here ≡ class_of kind → n ≤ length here → Spells kind (take n here)
-  → ((other : TokenKind) (m : ℕ) → m ≤ length here → Spells other (take m here) → class_of kind ≡ class_of other → m ≤ n) → IsLongest here kind n
+    → ((other : TokenKind) (m : ℕ) → m ≤ length here → Spells other (take m here) → class_of kind ≡ class_of other → m ≤ n) → IsLongest here kind n
 longest_of here kind n e within spelled most = record {
   stands = record { within = within; spelled = spelled; no_line_comment = no_line_comment here (class_of kind) e (apart_line kind); no_comment = no_comment here (class_of kind) e (apart kind) };
-  longest = λ other m s. most other m s.within s.spelled (sym e ∙ stands_class here other m s) }
+  longest = λ other m s. most other m s.within s.spelled (sym e ∙ stands_class here other m s);
+}
   where
     apart_line : (k : TokenKind) → class_of k ≢ class.LineComment
     apart_line Name h = cc
     apart_line _ h = cc
+
     apart : (k : TokenKind) → class_of k ≢ class.Comment
     apart Name h = cc
     apart _ h = cc
@@ -71,10 +73,10 @@ module _ (before here : Text) (n : ℕ) (letter : class_at here ≡ class.Letter
   name_longest : ((word : Keyword) → take n here ≢ keyword_text word) → IsLongest here Name n
   name_longest none = word_longest Name refl (record { word = is_front_word; no_keyword = none })
 
-  pub name_next : ((word : Keyword) → take n here ≢ keyword_text word) → n ≤ 255 → IsNext before here (Ok (piece.Token Name n))
+  pub name_next : ((word : Keyword) → take n here ≢ keyword_text word) → n ≤ longest_name → IsNext before here (Ok (piece.Token Name n))
   name_next none h = (name_longest none, h)
 
-  pub long_name_next : ((word : Keyword) → take n here ≢ keyword_text word) → 255 < n → IsNext before here (Err (LongName (length before)))
+  pub long_name_next : ((word : Keyword) → take n here ≢ keyword_text word) → longest_name < n → IsNext before here (Err (LongName (length before)))
   long_name_next none h = long_name (name_longest none) h
 
 -- ---- numbers
@@ -108,10 +110,10 @@ digits_of : (other : TokenKind) (text : Text) → Spells other text → class.Di
 digits_of (Int v) text h e = h.0
 digits_of _ text h e = cc
 
-above : (value : ℕ) → (value ≤ 9223372036854775807 → ⊥) → pos 9223372036854775807 <ℤ pos value
-above value h = go (cases_lt 9223372036854775807 value)
+above : (value : ℕ) → (value ≤ largest_number → ⊥) → pos largest_number <ℤ pos value
+above value h = go (cases_lt largest_number value)
   where
-    go : (9223372036854775807 < value) ⊎ (value ≤ 9223372036854775807) → pos 9223372036854775807 <ℤ pos value
+    go : (largest_number < value) ⊎ (value ≤ largest_number) → pos largest_number <ℤ pos value
     go (inl l) = omega (arith, ints, l)
     go (inr l) = absurd (h l)
 
@@ -119,8 +121,8 @@ module _ (before here : Text) (n : ℕ) (digit : class_at here ≡ class.Digit) 
   number_longest : (value : ℤ) → value ≡ pos (decimal_value (take n here)) → IsLongest here (Int value) n
   number_longest value e = longest_of here (Int value) n digit within (number, e) (λ other m h s same. most m h (digits_of other (take m here) s same))
 
-  pub number_next : (value : ℤ) → SomeIff (Some value) (decimal_value (take n here) ≤ 9223372036854775807) (pos (decimal_value (take n here))) → IsNext before here (Ok (piece.Token (Int value) n))
+  pub number_next : (value : ℤ) → SomeIff (Some value) (decimal_value (take n here) ≤ largest_number) (pos (decimal_value (take n here))) → IsNext before here (Ok (piece.Token (Int value) n))
   number_next value h = (number_longest value h.1, rw h.1 (omega (arith, ints, h.0)))
 
-  pub large_number_next : (decimal_value (take n here) ≤ 9223372036854775807 → ⊥) → IsNext before here (Err (NumberTooLarge (length before)))
+  pub large_number_next : (decimal_value (take n here) ≤ largest_number → ⊥) → IsNext before here (Err (NumberTooLarge (length before)))
   large_number_next h = large_number (number_longest (pos (decimal_value (take n here))) refl) (above (decimal_value (take n here)) h)

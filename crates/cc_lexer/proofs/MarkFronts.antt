@@ -63,6 +63,7 @@ module _ (before here : Text) (class_is : class_at here ≡ class.Other) where
         first : (t : Text) → HasFirst (λ b. true) t → take 1 t ≡ get_or t 0 0 ∷ []
         first [] v = let p = v.parts in cc
         first (b ∷ bs) v = refl
+
         go : (k : ℕ) → k ≡ length (mark_text m) → (length (mark_text m) ≡ 1) ⊎ (length (mark_text m) ≡ 2) → take k here ≡ mark_text m → (k ≡ 1) × (get_or here 0 0 ∷ [] ≡ mark_text m)
         go k p (inl q) f = let s : k ≡ 1 = p ∙ q in (s, sym (first here (viewed here class.Other class_is)) ∙ (rw s at f))
         go k p (inr q) f = let s : k ≡ 2 = p ∙ q in absurd (no_double m (q, rw s at f))
@@ -70,9 +71,11 @@ module _ (before here : Text) (class_is : class_at here ≡ class.Other) where
     pub single_next : (m : Mark) → get_or here 0 0 ∷ [] ≡ mark_text m → IsNext before here (Ok (piece.Token (Marked m) 1))
     single_next m e =
         let v = viewed here class.Other class_is in
-        let f : take 1 here ≡ mark_text m = ap (take 1) v.parts ∙ ap (λ b. b ∷ []) (sym (ap (λ t. get_or t 0 0) v.parts)) ∙ e in
-        (longest_of here (Marked m) 1 class_is (omega (arith, ap length v.parts)) f
-            (λ other n h s same. let w = marks_of other (take n here) s same in omega (arith, (is_first w.0 n h w.1).0)), tt)
+        let f : take 1 here ≡ mark_text m = ap (take 1) v.parts ∙ ap (λ b. b ∷ []) (sym (ap (λ t. get_or t 0 0) v.parts)) ∙ e in (
+          longest_of here (Marked m) 1 class_is (omega (arith, ap length v.parts)) f
+              (λ other n h s same. let w = marks_of other (take n here) s same in omega (arith, (is_first w.0 n h w.1).0)),
+          tt,
+        )
 
     module _ (no_single : (m : Mark) → get_or here 0 0 ∷ [] ≡ mark_text m → ⊥) where
       none_stands : NoneStands here
@@ -80,10 +83,12 @@ module _ (before here : Text) (class_is : class_at here ≡ class.Other) where
           let w = marks_of kind (take n here) s.spelled (sym class_is ∙ stands_class here kind n s) in
           no_single w.0 (is_first w.0 n s.within w.1).1
 
+      no_hash : Begins here (codes "#include") → ⊥
+      no_hash b = let e : class_at here ≡ class.Hash = ap class_at b.1 in cc
+
       no_blank : (n : ℕ) → IsBlank before here n → ⊥
       no_blank n h =
-          let w = only_include before here n h (λ e. cc) (λ e. cc) (λ e. cc) in
-          let e : class_at here ≡ class.Hash = ap class_at w.0.1 in cc
+          let w = only_include before here n h (λ e. cc) (λ e. cc) (λ e. cc) in no_hash w.0
 
       pub no_mark_next : IsNext before here (Err (BadByte (length before)))
       no_mark_next =

@@ -10,7 +10,7 @@ use Rattle.cc_lexer.specs.declared.token.TokenKind.TheVariants.{Name, Int, Str, 
 use Rattle.cc_lexer.specs.declared.fault.LexFault.{LexFault}
 use Rattle.cc_lexer.specs.declared.fault.LexFault.TheVariants.{BadByte, OpenComment, OpenString, LongName, NumberTooLarge}
 use Rattle.cc_lexer.specs.Spelling.{Text, is_inside, is_plain, is_letter, is_digit, Spells}
-use Rattle.cc_lexer.specs.Cut.{Begins, HasNoPlace, is_blank, is_line_feed, line_length, is_indent, IsFirstPlace, IsBlank, byte, line_comment, comment, include_line, Stands, IsLongest, NoneStands, IsWithinLimits}
+use Rattle.cc_lexer.specs.Cut.{Begins, HasNoPlace, is_blank, is_line_feed, line_length, is_indent, IsFirstPlace, IsBlank, byte, line_comment, comment, include_line, Stands, IsLongest, NoneStands, IsWithinLimits, longest_name, largest_number}
 use Rattle.cc_lexer.specs.Faults.{goes_on, is_line_end, BreaksOff, IsFault, open_comment, open_string, long_name, large_number, bad_inside, bad_byte}
 use Rattle.cc_lexer.specs.declared.class.Class.{Class}
 use Rattle.cc_lexer.specs.declared.class.Class.TheVariants as class
@@ -47,6 +47,7 @@ uncommented b c bs h i = go (b == 47 && c == 47) refl (b == 47 && c == 42) refl
   where
     two : (n : ℕ) → (b == 47 && c == n) ≡ true → Begins (b ∷ c ∷ bs) (47 ∷ n ∷ [])
     two n e = let w = and_parts (b == 47) (c == n) e in (bs, let p = eqb-true b 47 w.0 in let q = eqb-true c n w.1 in cc)
+
     go : (x : Bool) → (b == 47 && c == 47) ≡ x → (y : Bool) → (b == 47 && c == 42) ≡ y → class_at (b ∷ c ∷ bs) ≡ byte_class b
     go true e y f = absurd (h (two 47 e))
     go false e true f = absurd (i (two 42 f))
@@ -68,8 +69,8 @@ after_inside at n (b ∷ bs) = cond (b == 34) (takes Str (n + 2)) (cond (is_line
 
 -- what is next where this is the longest token
 abbrev pub Judged : ℕ → TokenKind → ℕ → Move → Type 0
-Judged at Name n m = ((n ≤ 255) × (m ≡ takes Name n)) ⊎ ((255 < n) × (m ≡ fails (LongName at)))
-Judged at (Int v) n m = ((v ≤ℤ pos 9223372036854775807) × (m ≡ takes (Int v) n)) ⊎ ((pos 9223372036854775807 <ℤ v) × (m ≡ fails (NumberTooLarge at)))
+Judged at Name n m = ((n ≤ longest_name) × (m ≡ takes Name n)) ⊎ ((longest_name < n) × (m ≡ fails (LongName at)))
+Judged at (Int v) n m = ((v ≤ℤ pos largest_number) × (m ≡ takes (Int v) n)) ⊎ ((pos largest_number <ℤ v) × (m ≡ fails (NumberTooLarge at)))
 Judged at kind n m = m ≡ takes kind n
 
 module _ (before here : Text) where
@@ -227,6 +228,7 @@ module _ (before here : Text) (some : 0 < length here) (no_blank : (n : ℕ) →
           by_letter true y = inr (no_token, refl)
           by_letter false true = inr (no_token, refl)
           by_letter false false = inr (no_token, refl)
+
       go : (x : Bool) → is_blank b ≡ x → (y : Bool) → (b == 35) ≡ y → (z : Bool) → (b == 34) ≡ z → BadMove (cond x class.Blank (cond y class.Hash (cond z class.Quote (cond (is_letter b) class.Letter (cond (is_digit b) class.Digit class.Other)))))
       go true f y g z k = absurd (no_blank 1 (byte e f))
       go false f true g z k = inr ((λ w. no_blank _ (include_line w.0 w.1)), refl)
@@ -240,6 +242,7 @@ module _ (before here : Text) (some : 0 < length here) (no_blank : (n : ℕ) →
     where
       two : (n : ℕ) → (b == 47 && c == n) ≡ true → Begins here (47 ∷ n ∷ [])
       two n f = let w = and_parts (b == 47) (c == n) f in (bs, let p = eqb-true b 47 w.0 in let q = eqb-true c n w.1 in cc)
+
       go : (x : Bool) → (b == 47 && c == 47) ≡ x → (y : Bool) → (b == 47 && c == 42) ≡ y → BadMove (cond x class.LineComment (cond y class.Comment (byte_class b)))
       go true f y g = absurd (no_blank _ (line_comment (two 47 f)))
       go false f true g = absurd (no_comment (two 42 g))

@@ -1,5 +1,6 @@
 -- A text is spelled like a token of one kind at most.
-use Rattle.std.proofs.Common.{◌≡◌, ◌↔◌, ℕ, Bool, true, false, cond, List, [], ◌∷◌, Option, Some, None, pos, refl, ap, sym, ◌∙◌}
+use Rattle.std.proofs.Common.{◌≡◌, ◌↔◌, ℕ, Bool, true, false, ◌==◌, cond, length, filter, List, [], ◌∷◌, Option, Some, None, pos, refl, ap, sym, ◌∙◌}
+use Rattle.std.proofs.lemmas.Bool.{eq-eqb}
 use Rattle.std.proofs.lemmas.Slice.Eq.{bytes_eq-Decides}
 use Rattle.std.specs.Prelude.{find}
 use Rattle.std.specs.Str.{bytes_eq}
@@ -10,10 +11,8 @@ use Rattle.cc_lexer.specs.declared.token.Mark.TheVariants as mark
 use Rattle.cc_lexer.specs.declared.token.TokenKind.{TokenKind}
 use Rattle.cc_lexer.specs.declared.token.TokenKind.TheVariants.{Name, Int, Str, Word, Mark as Marked}
 use Rattle.cc_lexer.specs.Spelling.{Text, keyword_text, mark_text, Spells}
+use Rattle.cc_lexer.specs.Keywords.{keywords, keywords_of_length}
 use Rattle.cc_lexer.proofs.Classes.{class_of, first_class, spelled_class}
-
-abbrev pub keywords : List Keyword
-keywords = keyword.Atomic ∷ keyword.Break ∷ keyword.Class ∷ keyword.Const ∷ keyword.Continue ∷ keyword.Cout ∷ keyword.Else ∷ keyword.Endl ∷ keyword.For ∷ keyword.Global ∷ keyword.If ∷ keyword.Int ∷ keyword.New ∷ keyword.Null ∷ keyword.Par ∷ keyword.Parfor ∷ keyword.Private ∷ keyword.Public ∷ keyword.Return ∷ keyword.Spawn ∷ keyword.Struct ∷ keyword.Sync ∷ keyword.This ∷ keyword.Void ∷ keyword.While ∷ []
 
 abbrev pub marks : List Mark
 marks = mark.OpenParen ∷ mark.CloseParen ∷ mark.OpenBrace ∷ mark.CloseBrace ∷ mark.OpenBracket ∷ mark.CloseBracket ∷ mark.Semicolon ∷ mark.Comma ∷ mark.Colon ∷ mark.Dot ∷ mark.Assign ∷ mark.Plus ∷ mark.Minus ∷ mark.Star ∷ mark.Slash ∷ mark.Percent ∷ mark.Less ∷ mark.Greater ∷ mark.Not ∷ mark.Ampersand ∷ mark.Arrow ∷ mark.Equal ∷ mark.NotEqual ∷ mark.LessEqual ∷ mark.GreaterEqual ∷ mark.And ∷ mark.Or ∷ mark.LessLess ∷ mark.PlusPlus ∷ mark.MinusMinus ∷ mark.PlusAssign ∷ mark.MinusAssign ∷ mark.StarAssign ∷ mark.SlashAssign ∷ mark.PercentAssign ∷ []
@@ -40,18 +39,32 @@ find_passes {A} p (y ∷ ys) x h = go (p y) refl h (λ f. find_passes p ys x f)
     go true e f k = let s : y ≡ x = cc in rw s at e
     go false e f k = k f
 
-pub keyword_found : (text : Text) (word : Keyword) → (keyword_of text ≡ Some word) ↔ (text ≡ keyword_text word)
+-- what passes a test is found among those that pass a weaker one
+find_in_filter : {A : Type 0} (p q : A → Bool) (xs : List A) → ((x : A) → p x ≡ true → q x ≡ true) → find p (filter q xs) ≡ find p xs
+find_in_filter p q [] h = refl
+find_in_filter {A} p q (x ∷ xs) h = go (p x) refl (q x) refl (find_in_filter p q xs h)
+  where
+    go : (a : Bool) → p x ≡ a → (b : Bool) → q x ≡ b → find p (filter q xs) ≡ find p xs → find p (cond b (x ∷ filter q xs) (filter q xs)) ≡ cond a (Some x) (find p xs)
+    go true e true f k = rw e refl
+    go true e false f k = let g = h x e in cc
+    go false e true f k = rw e k
+    go false e false f k = k
+
+keyword_of_length : (text : Text) → find (λ word. bytes_eq (keyword_text word) text) (keywords_of_length (length text)) ≡ keyword_of text
+keyword_of_length text =
+    find_in_filter (λ word. bytes_eq (keyword_text word) text) (λ word. length (keyword_text word) == length text) keywords
+    (λ word e. eq-eqb (length (keyword_text word)) (length text) (ap length ((bytes_eq-Decides (keyword_text word) text).0 e)))
+
+keyword_found : (text : Text) (word : Keyword) → (keyword_of text ≡ Some word) ↔ (text ≡ keyword_text word)
 keyword_found text word = (
   (λ h. sym ((bytes_eq-Decides (keyword_text word) text).0 (find_passes (λ w. bytes_eq (keyword_text w) text) keywords word h))),
-  (λ h. ap keyword_of h ∙ keyword_of_text word))
+  (λ h. ap keyword_of h ∙ keyword_of_text word),
+)
 
-pub mark_found : (text : Text) (m : Mark) → (mark_of text ≡ Some m) ↔ (text ≡ mark_text m)
-mark_found text m = (
-  (λ h. sym ((bytes_eq-Decides (mark_text m) text).0 (find_passes (λ w. bytes_eq (mark_text w) text) marks m h))),
-  (λ h. ap mark_of h ∙ mark_of_text m))
-
-pub mark_found_at : (text : Text) (r : Option Mark) → r ≡ mark_of text → (m : Mark) → (r ≡ Some m) ↔ (text ≡ mark_text m)
-mark_found_at text r e m = rw e (mark_found text m)
+pub found_among : (text : Text) (words : List Keyword) (r : Option Keyword) → words ≡ keywords_of_length (length text) → r ≡ find (λ word. bytes_eq (keyword_text word) text) words → (word : Keyword) → (r ≡ Some word) ↔ (text ≡ keyword_text word)
+found_among text words r w e word =
+    let f : r ≡ keyword_of text = e ∙ ap (find (λ v. bytes_eq (keyword_text v) text)) w ∙ keyword_of_length text in
+    rw f (keyword_found text word)
 
 same_keyword : (v w : Keyword) → keyword_text v ≡ keyword_text w → v ≡ w
 same_keyword v w e = let a = keyword_of_text v in let b = keyword_of_text w in let c = ap keyword_of e in cc

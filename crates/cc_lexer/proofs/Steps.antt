@@ -17,7 +17,7 @@ use Rattle.cc_lexer.specs.declared.token.TokenKind.TheVariants.{Name, Int, Str, 
 use Rattle.cc_lexer.specs.declared.fault.LexFault.{LexFault}
 use Rattle.cc_lexer.specs.declared.fault.LexFault.TheVariants.{Memory}
 use Rattle.cc_lexer.specs.Spelling.{Text, is_letter, is_word_byte, is_digit, is_word, is_number, is_inside, is_plain, is_escape, keyword_text, mark_text, Spells}
-use Rattle.cc_lexer.specs.Cut.{Begins, is_line_feed, line_length, IsBlank, byte, line_comment, comment, include_line, IsLongest, IsWithinLimits, IsTokenOf, IsCutTo, nothing, blank, token, Cut}
+use Rattle.cc_lexer.specs.Cut.{Begins, is_line_feed, line_length, IsBlank, byte, line_comment, comment, include_line, IsLongest, IsWithinLimits, IsTokenOf, IsCutTo, nothing, blank, token, longest_text, Cut}
 use Rattle.cc_lexer.specs.Faults.{IsFault, FirstFault, at_place}
 use Rattle.cc_lexer.specs.Next.{IsNext}
 use Rattle.cc_lexer.proofs.Classes.{spelled_class, word_is}
@@ -49,6 +49,7 @@ token_size here kind n h = (some n h.stands.spelled, h.stands.within)
     empty Str s = let e = spelled_class Str [] s in cc
     empty (Word w) s = let e = spelled_class (Word w) [] s in cc
     empty (Marked m) s = let e = spelled_class (Marked m) [] s in cc
+
     some : (m : ℕ) → Spells kind (take m here) → 0 < m
     some zero s = absurd (empty kind s)
     some (suc m) s = omega arith
@@ -79,7 +80,7 @@ inside_feeds (b ∷ []) h = and_from (no_feed b) true (plain_byte b h) refl
 inside_feeds (b ∷ c ∷ bs) h = go (b == 92) refl h (λ k. inside_feeds bs k) (λ k. inside_feeds (c ∷ bs) k)
   where
     go : (x : Bool) → (b == 92) ≡ x → cond x (is_escape c && is_inside bs) (is_plain b && is_inside (c ∷ bs)) ≡ true
-       → (is_inside bs ≡ true → list_all no_feed bs ≡ true) → (is_inside (c ∷ bs) ≡ true → list_all no_feed (c ∷ bs) ≡ true) → list_all no_feed (b ∷ c ∷ bs) ≡ true
+        → (is_inside bs ≡ true → list_all no_feed bs ≡ true) → (is_inside (c ∷ bs) ≡ true → list_all no_feed (c ∷ bs) ≡ true) → list_all no_feed (b ∷ c ∷ bs) ≡ true
     go true e f k l =
         let w = and_parts (is_escape c) (is_inside bs) f in
         and_from (no_feed b) _ (ap no_feed (eqb-true b 92 e)) (and_from (no_feed c) _ (escape_byte c w.0) (k w.1))
@@ -143,14 +144,15 @@ module _ (text : Text) where
         record {
           within = (token_fits kind n h).1;
           cut = token so_far.cut (record { in_order = omega arith; longest = longest; within_limits = limits; line = so_far.line_is });
-          line_is = omega (arith, so_far.line_is, more n, spelled_feeds kind (take n here) h.0.stands.spelled) }
+          line_is = omega (arith, so_far.line_is, more n, spelled_feeds kind (take n here) h.0.stands.spelled);
+        }
 
-    pub all_read : length text ≤ 1048576 → IsNext before here (Ok piece.End) → Cut text tokens
+    pub all_read : length text ≤ longest_text → IsNext before here (Ok piece.End) → Cut text tokens
     all_read short h =
         let e : at ≡ length text = omega (arith, so_far.within, ap length h, here_length) in
         record { not_too_long = short; whole = subst (λ k. IsCutTo text k tokens) e so_far.cut }
 
-    pub fault_read : length text ≤ 1048576 → (fault : LexFault) → IsNext before here (Err fault) → FirstFault text fault
+    pub fault_read : length text ≤ longest_text → (fault : LexFault) → IsNext before here (Err fault) → FirstFault text fault
     fault_read short fault h = at_place short so_far.cut (subst (λ t. IsFault (take at text) t fault) ahead (subst (λ t. IsFault t here fault) behind h))
 
 -- ---- the answer

@@ -31,8 +31,9 @@ by_byte b rest = go (is_blank b) refl (b == 35) refl (b == 34) refl (is_letter b
   where
     has : (p : ℕ → Bool) → p b ≡ true → HasFirst p (b ∷ rest)
     has p e = record { first = b; rest = rest; parts = refl; passes = e }
+
     go : (v : Bool) → is_blank b ≡ v → (w : Bool) → (b == 35) ≡ w → (x : Bool) → (b == 34) ≡ x → (y : Bool) → is_letter b ≡ y → (z : Bool) → is_digit b ≡ z
-       → View (cond v class.Blank (cond w class.Hash (cond x class.Quote (cond y class.Letter (cond z class.Digit class.Other))))) (b ∷ rest)
+        → View (cond v class.Blank (cond w class.Hash (cond x class.Quote (cond y class.Letter (cond z class.Digit class.Other))))) (b ∷ rest)
     go true e w f x g y h z i = has is_blank e
     go false e true f x g y h z i = has (λ c. c == 35) f
     go false e false f true g y h z i = has (λ c. c == 34) g
@@ -47,6 +48,7 @@ view (b ∷ c ∷ bs) = go (b == 47 && c == 47) refl (b == 47 && c == 42) refl
   where
     two : (n : ℕ) → (b == 47 && c == n) ≡ true → Begins (b ∷ c ∷ bs) (47 ∷ n ∷ [])
     two n e = let w = and_parts (b == 47) (c == n) e in (bs, let p = eqb-true b 47 w.0 in let q = eqb-true c n w.1 in cc)
+
     go : (x : Bool) → (b == 47 && c == 47) ≡ x → (y : Bool) → (b == 47 && c == 42) ≡ y → View (cond x class.LineComment (cond y class.Comment (byte_class b))) (b ∷ c ∷ bs)
     go true e y f = two 47 e
     go false e true f = two 42 f

@@ -61,10 +61,16 @@ pub record IsLongest (here : Text) (kind : TokenKind) (n : ℕ) : Type 0 where
 abbrev pub NoneStands : Text → Type 0
 NoneStands here = (kind : TokenKind) (n : ℕ) → Stands here kind n → ⊥
 
--- A name has at most 255 bytes, and a number is at most 9,223,372,036,854,775,807.
+-- the most bytes of a name
+abbrev pub longest_name : ℕ
+longest_name = 255
+
+abbrev pub largest_number : ℕ
+largest_number = 9223372036854775807
+
 abbrev pub IsWithinLimits : TokenKind → ℕ → Type 0
-IsWithinLimits Name n = n ≤ 255
-IsWithinLimits (Int value) n = value ≤ℤ pos 9223372036854775807
+IsWithinLimits Name n = n ≤ longest_name
+IsWithinLimits (Int value) n = value ≤ℤ pos largest_number
 IsWithinLimits _ n = Unit {0}
 
 -- The token is the longest one at its place in the text, and its line is counted by the line feeds before it, from 1.
@@ -82,7 +88,11 @@ pub data IsCutTo (text : Text) : ℕ → List Token → Type 0 where
   blank : {at n : ℕ} {tokens : List Token} → IsCutTo text at tokens → IsBlank (take at text) (drop at text) n → IsCutTo text (at + n) tokens
   token : {tokens : List Token} {t : Token} → IsCutTo text t.start tokens → IsTokenOf text t → IsCutTo text t.end (tokens ++ t ∷ [])
 
+-- the most bytes of a text
+abbrev pub longest_text : ℕ
+longest_text = 1048576
+
 -- A text that is not too long is blanks and these tokens in turn.
 pub record Cut (text : Text) (tokens : List Token) : Type 0 where
-  pub not_too_long : length text ≤ 1048576
+  pub not_too_long : length text ≤ longest_text
   pub whole : IsCutTo text (length text) tokens

@@ -4,4 +4,4 @@ pub mod Cut
 pub mod Faults
 pub mod Lexemes
 pub mod Next
-pub mod String
+pub mod Keywords

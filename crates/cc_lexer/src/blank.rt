@@ -1,5 +1,5 @@
-ghost use Rattle.std.specs.Prelude.{◌≡◌, ◌↔◌, ◌≤◌, ◌+◌, length, drop, codes, count_by, take, IsTrue, IfSome, IfNone};
-ghost use Rattle.cc_lexer.specs.Cut.{Begins, is_line_feed, line_length, is_indent, HasNoPlace, IsFirstPlace};
+ghost use Rattle.std.specs.Prelude.{◌≡◌, ◌↔◌, ◌≤◌, ◌+◌, ℕ, List, length, codes, count_by, take, IsTrue, IfSome, IfNone};
+ghost use Rattle.cc_lexer.specs.Cut.{Begins, is_line_feed, line_length, is_indent, HasNoPlace, IsFirstPlace, longest_text};
 ghost use Rattle.cc_lexer.specs.Next.{class_at, IsNext};
 ghost use Rattle.cc_lexer.specs.declared.class.Class.{Class};
 
@@ -7,9 +7,9 @@ use crate::fault::{LexFault, place};
 use crate::piece::Piece;
 
 /// A byte that is a blank by itself.
-pub fn single(before: &[u8], here: &[u8]) -> Piece
+pub fn single(here: &[u8]) -> Piece
     requires { class_at here.now ≡ Class.Blank }
-    ensures { IsNext before.now here.now (Ok result) }
+    ensures { (before : List ℕ) → IsNext before here.now (Ok result) }
 {
     Piece::Blank {
         length: 1,
@@ -18,23 +18,23 @@ pub fn single(before: &[u8], here: &[u8]) -> Piece
 }
 
 /// A comment to the end of its line.
-pub fn line_comment(before: &[u8], here: &[u8]) -> Piece
+pub fn line_comment(here: &[u8]) -> Piece
     requires { class_at here.now ≡ Class.LineComment }
-    ensures { IsNext before.now here.now (Ok result) }
+    ensures { (before : List ℕ) → IsNext before here.now (Ok result) }
 {
     rest_of_line(here)
 }
 
 /// A comment that is to be closed.
 pub fn comment(before: &[u8], here: &[u8]) -> Result<Piece, LexFault>
-    requires short { length before.now + length here.now ≤ 1048576 }
+    requires short { length before.now + length here.now ≤ longest_text }
     requires class { class_at here.now ≡ Class.Comment }
     ensures { IsNext before.now here.now result }
 {
     match comment_end(&here[2..]) {
-        Some((end, line_feeds)) => Ok(Piece::Blank {
-            length: end + 4,
-            line_feeds,
+        Some(end) => Ok(Piece::Blank {
+            length: end.at + 4,
+            line_feeds: end.line_feeds,
         }),
         None => Err(LexFault::OpenComment { at: place(before) }),
     }
@@ -42,7 +42,7 @@ pub fn comment(before: &[u8], here: &[u8]) -> Result<Piece, LexFault>
 
 /// The rest of a line from a `#` on, if it is an include line.
 pub fn include_line(before: &[u8], here: &[u8]) -> Result<Piece, LexFault>
-    requires short { length before.now + length here.now ≤ 1048576 }
+    requires short { length before.now + length here.now ≤ longest_text }
     requires class { class_at here.now ≡ Class.Hash }
     ensures { IsNext before.now here.now result }
 {
@@ -70,16 +70,23 @@ fn line_length(here: &[u8]) -> usize
     here.iter().take_while(|b| **b != b'\n').count()
 }
 
-/// Where a comment is closed whose inside begins here, and how many line feeds there are before that.
-fn comment_end(inside: &[u8]) -> Option<(usize, usize)>
-    ensures open { IfNone result (HasNoPlace (codes "*/") inside.now) }
-    ensures closed { IfSome result (λ end. IsFirstPlace (codes "*/") inside.now end.0) }
-    ensures line_feeds { IfSome result (λ end. end.1 ≡ count_by is_line_feed (take end.0 inside.now)) }
+/// Where the inside of a comment ends, and how many line feeds it has.
+#[derive(Clone, Copy)]
+struct CommentEnd {
+    at: usize,
+    line_feeds: usize,
+}
+
+/// The end of the comment whose inside begins here, or nothing where it is not closed.
+fn comment_end(inside: &[u8]) -> Option<CommentEnd>
+    ensures not_closed { IfNone result (HasNoPlace (codes "*/") inside.now) }
+    ensures closed { IfSome result (λ end. IsFirstPlace (codes "*/") inside.now end.at) }
+    ensures line_feeds { IfSome result (λ end. end.line_feeds ≡ count_by is_line_feed (take end.at inside.now)) }
 {
     let mut line_feeds = 0;
     for at in 0..inside.len() {
         if begins(&inside[at..], b"*/") {
-            return Some((at, line_feeds));
+            return Some(CommentEnd { at, line_feeds });
         }
         if inside[at] == b'\n' {
             line_feeds += 1;

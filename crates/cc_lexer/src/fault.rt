@@ -1,4 +1,5 @@
 ghost use Rattle.std.specs.Prelude.{◌≡◌, ◌≤◌, length};
+ghost use Rattle.cc_lexer.specs.Cut.{longest_text};
 
 use std::alloc::AllocError;
 use thiserror::Error;
@@ -42,7 +43,7 @@ impl From<AllocError> for LexFault {
 
 /// The place at which the text goes on behind these bytes.
 pub fn place(before: &[u8]) -> u32
-    requires { length before.now ≤ 1048576 }
+    requires { length before.now ≤ longest_text }
     ensures { result ≡ length before.now }
 {
     before.len() as u32

@@ -1,16 +1,15 @@
-ghost use Rattle.std.specs.Prelude.{◌≡◌, ◌≢◌, ◌≤◌, List, length, IfOk, IfErr};
-ghost use Rattle.cc_lexer.specs.Cut.{Cut};
+ghost use Rattle.std.specs.Prelude.{◌≡◌, ◌≢◌, ◌≤◌, length, IfOk, IfErr};
+ghost use Rattle.cc_lexer.specs.Cut.{Cut, longest_text};
 ghost use Rattle.cc_lexer.specs.Faults.{FirstFault};
 ghost use Rattle.cc_lexer.specs.declared.token.Token.{Token};
 ghost use Rattle.cc_lexer.specs.declared.fault.LexFault.{LexFault};
-
-use ccpp_edge::List;
-use std::alloc::Global;
 
 use crate::fault::LexFault;
 use crate::next::next;
 use crate::piece::Piece;
 use crate::token::Token;
+use ccpp_edge::List;
+use std::alloc::Global;
 
 /// The most bytes of a text.
 pub const MAX_TEXT: usize = 1_048_576;
@@ -32,9 +31,9 @@ pub fn lex(alloc: Global, text: &[u8]) -> Result<List<Token>, LexFault>
     tokens_of(alloc, text)
 }
 
-/// The same of a text that is not too long.
+/// The same, of a text that is not too long.
 fn tokens_of(alloc: Global, text: &[u8]) -> Result<List<Token>, LexFault>
-    requires { length text.now ≤ 1048576 }
+    requires { length text.now ≤ longest_text }
     ensures cut { IfOk result (Cut text.now) }
     ensures fault { IfErr result (λ fault. fault ≢ LexFault.Memory → FirstFault text.now fault) }
 {

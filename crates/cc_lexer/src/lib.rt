@@ -4,6 +4,7 @@
 mod blank;
 mod class;
 mod fault;
+pub mod laws;
 mod lexer;
 mod mark;
 mod next;
@@ -11,8 +12,10 @@ mod number;
 mod piece;
 mod string;
 mod token;
+mod unescape;
 mod word;
 
 pub use fault::LexFault;
 pub use lexer::{MAX_TEXT, lex};
 pub use token::{Keyword, Mark, Token, TokenKind};
+pub use unescape::unescaped;

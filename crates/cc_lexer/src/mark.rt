@@ -1,5 +1,6 @@
 ghost use Rattle.std.specs.Prelude.{◌≡◌, ◌↔◌, ◌≤◌, ◌+◌, length, take, [], ◌∷◌};
 ghost use Rattle.cc_lexer.specs.Spelling.{mark_text};
+ghost use Rattle.cc_lexer.specs.Cut.{longest_text};
 ghost use Rattle.cc_lexer.specs.Next.{class_at, IsNext};
 ghost use Rattle.cc_lexer.specs.declared.class.Class.{Class};
 ghost use Rattle.cc_lexer.specs.declared.token.Mark.{Mark};
@@ -10,7 +11,7 @@ use crate::token::{Mark, TokenKind};
 
 /// The longest mark that stands at the front.
 pub fn mark(before: &[u8], here: &[u8]) -> Result<Piece, LexFault>
-    requires short { length before.now + length here.now ≤ 1048576 }
+    requires short { length before.now + length here.now ≤ longest_text }
     requires class { class_at here.now ≡ Class.Other }
     ensures { IsNext before.now here.now result }
 {
@@ -23,6 +24,7 @@ pub fn mark(before: &[u8], here: &[u8]) -> Result<Piece, LexFault>
     }
 }
 
+/// A mark with its length.
 fn marked(mark: Mark, length: usize) -> Piece
     ensures { result ≡ Piece.Token (TokenKind.Mark mark) length }
 {

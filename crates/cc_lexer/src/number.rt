@@ -1,6 +1,7 @@
 ghost use Rattle.std.specs.Prelude.{◌≡◌, ◌≤◌, ◌+◌, length, take, ℕ, pos, IsTrue, SomeIff};
 ghost use Rattle.std.specs.List.{list_all, prefix_len};
 ghost use Rattle.cc_lexer.specs.Spelling.{is_digit, is_number, decimal_value};
+ghost use Rattle.cc_lexer.specs.Cut.{largest_number, longest_text};
 ghost use Rattle.cc_lexer.specs.Next.{class_at, IsNext};
 ghost use Rattle.cc_lexer.specs.declared.class.Class.{Class};
 
@@ -10,7 +11,7 @@ use crate::token::TokenKind;
 
 /// A number. None but 0 begins with 0, so that 007 is three of them.
 pub fn number(before: &[u8], here: &[u8]) -> Result<Piece, LexFault>
-    requires short { length before.now + length here.now ≤ 1048576 }
+    requires short { length before.now + length here.now ≤ longest_text }
     requires class { class_at here.now ≡ Class.Digit }
     ensures { IsNext before.now here.now result }
 {
@@ -48,11 +49,13 @@ fn digits_length(here: &[u8]) -> usize
 /// The value of the digits in base ten, where it is at most 9,223,372,036,854,775,807.
 fn decimal_value(digits: &[u8]) -> Option<i64>
     requires { IsTrue (list_all is_digit digits.now) }
-    ensures { SomeIff result (decimal_value digits.now ≤ 9223372036854775807) (pos (decimal_value digits.now)) }
+    ensures { SomeIff result (decimal_value digits.now ≤ largest_number) (pos (decimal_value digits.now)) }
 {
     let mut value: u64 = 0;
     for digit in digits {
-        value = value.checked_mul(10)?.checked_add(u64::from(*digit - b'0'))?;
+        value = value
+            .checked_mul(10)?
+            .checked_add(u64::from(*digit - b'0'))?;
     }
     i64::try_from(value).ok()
 }

@@ -1,7 +1,7 @@
 ghost use Rattle.std.specs.Prelude.{◌≡◌, ◌≤◌, ◌+◌, length, take, drop, IsTrue, IsFalse};
 ghost use Rattle.cc_lexer.specs.Spelling.{is_plain, is_escape, is_inside};
 ghost use Rattle.cc_lexer.specs.Faults.{goes_on};
-ghost use Rattle.cc_lexer.specs.String.{unit_length};
+ghost use Rattle.cc_lexer.specs.Cut.{longest_text};
 ghost use Rattle.cc_lexer.specs.Next.{class_at, IsNext};
 ghost use Rattle.cc_lexer.specs.declared.class.Class.{Class};
 
@@ -11,7 +11,7 @@ use crate::token::TokenKind;
 
 /// A string.
 pub fn string(before: &[u8], here: &[u8]) -> Result<Piece, LexFault>
-    requires short { length before.now + length here.now ≤ 1048576 }
+    requires short { length before.now + length here.now ≤ longest_text }
     requires class { class_at here.now ≡ Class.Quote }
     ensures { IsNext before.now here.now result }
 {
@@ -49,8 +49,9 @@ fn inside_length(here: &[u8]) -> usize
 
 /// How many bytes the byte that stands for itself or the escape at the front has, or 0 where there is neither.
 fn unit_length(here: &[u8]) -> usize
-    ensures value { result ≡ unit_length here.now }
     ensures within { result ≤ length here.now }
+    ensures inside { IsTrue (is_inside (take result here.now)) }
+    ensures none { result ≡ 0 → IsFalse (goes_on here.now) }
 {
     match here {
         [b'\\', b, ..] if is_escape(*b) => 2,

@@ -2,6 +2,8 @@ ghost use Rattle.std.specs.Prelude.{◌≡◌, ◌↔◌, ◌≤◌, ◌+◌, le
 ghost use Rattle.std.specs.Str.{bytes_eq};
 ghost use Rattle.std.specs.List.{prefix_len};
 ghost use Rattle.cc_lexer.specs.Spelling.{is_word_byte, keyword_text};
+ghost use Rattle.cc_lexer.specs.Keywords.{keywords_of_length};
+ghost use Rattle.cc_lexer.specs.Cut.{longest_text};
 ghost use Rattle.cc_lexer.specs.Next.{class_at, IsNext};
 ghost use Rattle.cc_lexer.specs.declared.class.Class.{Class};
 ghost use Rattle.cc_lexer.specs.declared.token.Keyword.{Keyword};
@@ -13,37 +15,9 @@ use crate::token::{Keyword, TokenKind};
 /// The most bytes of a name.
 const MAX_NAME: usize = 255;
 
-const KEYWORDS: [Keyword; 25] = [
-    Keyword::Atomic,
-    Keyword::Break,
-    Keyword::Class,
-    Keyword::Const,
-    Keyword::Continue,
-    Keyword::Cout,
-    Keyword::Else,
-    Keyword::Endl,
-    Keyword::For,
-    Keyword::Global,
-    Keyword::If,
-    Keyword::Int,
-    Keyword::New,
-    Keyword::Null,
-    Keyword::Par,
-    Keyword::Parfor,
-    Keyword::Private,
-    Keyword::Public,
-    Keyword::Return,
-    Keyword::Spawn,
-    Keyword::Struct,
-    Keyword::Sync,
-    Keyword::This,
-    Keyword::Void,
-    Keyword::While,
-];
-
 /// A keyword or a name.
 pub fn word(before: &[u8], here: &[u8]) -> Result<Piece, LexFault>
-    requires short { length before.now + length here.now ≤ 1048576 }
+    requires short { length before.now + length here.now ≤ longest_text }
     requires class { class_at here.now ≡ Class.Letter }
     ensures { IsNext before.now here.now result }
 {
@@ -98,14 +72,54 @@ fn keyword_text(word: Keyword) -> &'static [u8]
 fn keyword(text: &[u8]) -> Option<Keyword>
     ensures { (word : Keyword) → (result ≡ Some word) ↔ (text.now ≡ keyword_text word) }
 {
-    first_with_text(&KEYWORDS, text)
+    first_with_text(keywords_of_length(text.len()), text)
+}
+
+/// The keywords of this many bytes.
+fn keywords_of_length(length: usize) -> &'static [Keyword]
+    ensures { result.now ≡ keywords_of_length length }
+{
+    match length {
+        2 => &[Keyword::If],
+        3 => &[Keyword::For, Keyword::Int, Keyword::New, Keyword::Par],
+        4 => &[
+            Keyword::Cout,
+            Keyword::Else,
+            Keyword::Endl,
+            Keyword::Null,
+            Keyword::Sync,
+            Keyword::This,
+            Keyword::Void,
+        ],
+        5 => &[
+            Keyword::Break,
+            Keyword::Class,
+            Keyword::Const,
+            Keyword::Spawn,
+            Keyword::While,
+        ],
+        6 => &[
+            Keyword::Atomic,
+            Keyword::Global,
+            Keyword::Parfor,
+            Keyword::Public,
+            Keyword::Return,
+            Keyword::Struct,
+        ],
+        7 => &[Keyword::Private],
+        8 => &[Keyword::Continue],
+        _ => &[],
+    }
 }
 
 /// The first of these keywords with this text.
 fn first_with_text(words: &[Keyword], text: &[u8]) -> Option<Keyword>
     ensures { result ≡ find (λ word. bytes_eq (keyword_text word) text.now) words.now }
 {
-    words.iter().copied().find(|word| keyword_text(*word) == text)
+    words
+        .iter()
+        .copied()
+        .find(|word| keyword_text(*word) == text)
 }
 
 /// How many bytes of a word stand at the front.

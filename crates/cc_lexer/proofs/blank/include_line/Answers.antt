@@ -9,7 +9,8 @@ returns-then-is_indent c = rw c.rest_of_line.ensures (include_next c.args.before
 pub returns-else-begins : goal.returns-else-begins
 returns-else-begins c =
     rw c.place.ensures (no_include_next c.args.before.now c.args.here.now c.requires.class (λ b h.
-        let t = c.begins.ensures.1 b in
-        elim c.else-begins.branch [
-          else-begins-via-then-begins+else-is_indent w ↦ cc (h, w.is_indent.ensures, w.if-is_indent.false)
-        | else-begins-via-else-begins w ↦ cc (t, w.if-begins.false) ]))
+    let t = c.begins.ensures.1 b in
+    elim c.else-begins.branch [
+      | else-begins-via-then-begins+else-is_indent w ↦ cc (h, w.is_indent.ensures, w.if-is_indent.false)
+      | else-begins-via-else-begins w ↦ cc (t, w.if-begins.false)
+    ]))

@@ -6,7 +6,7 @@ use Rattle.cc_lexer.proofs.string.inside_length.Goals as goal
 pub loop-n-preserved : goal.loop-n-preserved
 loop-n-preserved c =
     let here = c.args.here.now in
-    let unit = rw take_rest at c.unit_length.ensures.value in
+    let n = c.loop-n.length in
     record {
-      within = omega (arith, rw take_rest at c.unit_length.ensures.within, length-drop c.loop-n.length here);
-      inside = rw unit (inside_more here c.loop-n.length c.loop-n.invariant.inside) }
+      within = omega (arith, rw take_rest at c.unit_length.ensures.within, length-drop n here);
+      inside = inside_more here n c.unit_length.result c.loop-n.invariant.inside (rw take_rest at c.unit_length.ensures.inside) }

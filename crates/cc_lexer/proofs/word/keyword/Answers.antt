@@ -1,5 +1,5 @@
-use Rattle.cc_lexer.proofs.OneKind.{keyword_found}
+use Rattle.cc_lexer.proofs.OneKind.{found_among}
 use Rattle.cc_lexer.proofs.word.keyword.Goals as goal
 
 pub returns : goal.returns
-returns c = λ word. rw c.first_with_text.ensures (keyword_found c.args.text.now word)
+returns c = found_among c.args.text.now _ _ c.keywords_of_length.ensures c.first_with_text.ensures
