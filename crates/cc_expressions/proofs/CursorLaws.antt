@@ -1,17 +1,16 @@
 -- What the cursor's calls give.
-use Rattle.std.proofs.Common.{◌≡◌, ℕ, zero, suc, ◌+◌, ◌||◌, ◌==◌, map, add-one, ◌<◌, ◌≤◌, ◌-◌, take, Bool, true, false, List, [], ◌∷◌, length, get_or, drop, ◌++◌, refl, ap, sym, ◌∙◌, append_assoc, arith}
+use Rattle.std.proofs.Common.{◌≡◌, ℕ, zero, suc, ◌+◌, ◌||◌, ◌==◌, map, add-one, ◌<◌, ◌≤◌, ◌-◌, take, Bool, true, false, List, [], ◌∷◌, length, get_or, drop, refl, arith}
 use Rattle.std.proofs.Math.Seq.{take-length, drop-cons}
-use Rattle.std.proofs.lemmas.List.{drop_all, drop-take, drop_more}
+use Rattle.std.proofs.lemmas.List.{drop_all}
 use Rattle.std.proofs.lemmas.Str.{IsUtf8-from_ascii}
-use Rattle.cc_grammar.proofs.Rules.{append_nil}
 use Rattle.std.specs.Str.{IsAscii, IsUtf8}
 use Rattle.cc_lexer.specs.declared.token.Token.{Token}
 use Rattle.cc_lexer.specs.declared.token.TokenKind.{TokenKind}
 use Rattle.cc_lexer.specs.declared.token.TokenKind.TheVariants as k
 use Rattle.cc_grammar.specs.declared.fault.Fault.TheVariants.{Syntax, TooDeep}
-use Rattle.cc_grammar.specs.Lexeme.{Lexeme, Lexemes, lexemes, token_text, unescaped, replaced_escapes, escaped_byte}
+use Rattle.cc_grammar.specs.Lexeme.{Lexeme, Lexemes, lexemes, token_text}
 use Rattle.cc_grammar.specs.Kinds.{Kinds, code, kinds, has, heads, tail_of}
-use Rattle.cc_expressions.specs.Fits.{Fits, AllFit, OfKind, IsUnit}
+use Rattle.cc_expressions.specs.Fits.{Fits, AllFit, IsText}
 use Rattle.cc_grammar.specs.Reading.{Good, Failed, token, opening, itself}
 
 heads_none : (a : Lexemes) → heads [] a ≡ false
@@ -75,59 +74,16 @@ pub first_fits : (n : ℕ) (text : List ℕ) (ts : List Token) (d : Token) → A
 first_fits n text [] d h i = cc
 first_fits n text (t ∷ ts) d h i = h.0
 
-name_ascii : (kind : TokenKind) (bytes : List ℕ) → code kind ≡ 0 → OfKind kind bytes → IsAscii bytes
+name_ascii : (kind : TokenKind) (bytes : List ℕ) → code kind ≡ 0 → IsText kind bytes → IsAscii bytes
 name_ascii k.Name bytes h i = i
 name_ascii (k.Int v) bytes h i = absurd cc
 name_ascii k.Str bytes h i = absurd cc
 name_ascii (k.Word w) bytes h i = absurd (omega arith)
 name_ascii (k.Mark m) bytes h i = absurd (omega arith)
 
-string_quoted : (kind : TokenKind) (bytes : List ℕ) → code kind ≡ 2 → OfKind kind bytes → 2 ≤ length bytes
-string_quoted k.Name bytes h i = absurd cc
-string_quoted (k.Int v) bytes h i = absurd cc
-string_quoted k.Str bytes h i = i
-string_quoted (k.Word w) bytes h i = absurd (omega arith)
-string_quoted (k.Mark m) bytes h i = absurd (omega arith)
-
 pub first_ascii : (text : List ℕ) (ts : List Token) (d : Token) → AllFit text ts → heads (0 ∷ []) (lexemes text ts) ≡ true → IsAscii (token_text text (get_or ts 0 d))
 first_ascii text [] d h i = cc
-first_ascii text (t ∷ ts) d h i = name_ascii t.kind (token_text text t) (grind (arith)) h.0.of_kind
-
-pub first_quoted : (text : List ℕ) (ts : List Token) (d : Token) → AllFit text ts → heads (2 ∷ []) (lexemes text ts) ≡ true → 2 ≤ length (token_text text (get_or ts 0 d))
-first_quoted text [] d h i = cc
-first_quoted text (t ∷ ts) d h i = string_quoted t.kind (token_text text t) (grind (arith)) h.0.of_kind
+first_ascii text (t ∷ ts) d h i = name_ascii t.kind (token_text text t) (grind (arith)) h.0.is_text
 
 pub ascii_text : (bytes : List ℕ) → IsAscii bytes → IsUtf8 bytes
 ascii_text bytes h = IsUtf8-from_ascii bytes h
-
--- ---- escapes
-
-plain : (b : ℕ) (bs : List ℕ) → (b ≡ 92 → ⊥) → replaced_escapes (b ∷ bs) ≡ b ∷ replaced_escapes bs
-plain b [] h = refl
-plain b (c ∷ bs) h = let e : (b == 92) ≡ false = grind (arith) in rw e refl
-
-pub plain_unit : (xs : List ℕ) (i d : ℕ) → i < length xs → (get_or xs i d ≡ 92 → ⊥) → IsUnit xs i (get_or xs i d) 1
-plain_unit xs i d h k = record { value = ap replaced_escapes (drop_more xs i d h) ∙ plain (get_or xs i d) (drop (i + 1) xs) k }
-
-pub last_unit : (xs : List ℕ) (i d : ℕ) → i < length xs → i + 1 ≡ length xs → IsUnit xs i (get_or xs i d) 1
-last_unit xs i d h k = let e : drop (i + 1) xs ≡ [] = drop_all (i + 1) xs (omega arith) in record { value = rw (drop_more xs i d h, e) refl }
-
-pub escape_unit : (xs : List ℕ) (i d e : ℕ) → i + 1 < length xs → get_or xs i d ≡ 92 → IsUnit xs i (escaped_byte (get_or xs (i + 1) e)) 2
-escape_unit xs i d e h k =
-    let j : i < length xs = omega arith in
-    let n : i + 1 + 1 ≡ i + 2 = omega arith in
-    record { value = rw (drop_more xs i d j, k, drop_more xs (i + 1) e h, n) refl }
-
-pub next_unit : (all found xs : List ℕ) (i b n : ℕ) → all ≡ found ++ replaced_escapes (drop i xs) → IsUnit xs i b n → all ≡ (found ++ b ∷ []) ++ replaced_escapes (drop (i + n) xs)
-next_unit all found xs i b n h u = h ∙ (ap (λ bs. found ++ bs) u.value ∙ sym (append_assoc found (b ∷ []) (replaced_escapes (drop (i + n) xs))))
-
-pub all_units : (all found xs : List ℕ) (i : ℕ) → all ≡ found ++ replaced_escapes (drop i xs) → length xs ≤ i → found ≡ all
-all_units all found xs i h k =
-    let e : drop i xs ≡ [] = drop_all i xs k in
-    sym (h ∙ (ap (λ bs. found ++ replaced_escapes bs) e ∙ append_nil found))
-
--- what lies between two quotes
-pub inside_quotes : (xs : List ℕ) → 2 ≤ length xs → take (length xs - 1 - 1) (drop 1 xs) ≡ drop 1 (take (length xs - 1) xs)
-inside_quotes xs h =
-    let e : length xs - 1 ≡ 1 + (length xs - 1 - 1) = omega arith in
-    sym (ap (λ n. drop 1 (take n xs)) e ∙ drop-take 1 (length xs - 1 - 1) xs)

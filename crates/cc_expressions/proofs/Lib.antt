@@ -3,3 +3,4 @@ pub mod NestLaws
 pub mod RepeatLaws
 pub mod EndingLaws
 pub mod FlatLaws
+pub mod FitLaws

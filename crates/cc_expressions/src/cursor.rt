@@ -1,16 +1,17 @@
 //! A cursor over the tokens of a text. After a fault it stands at the token that is refused.
 
-ghost use Rattle.std.specs.Prelude.{◌≡◌, ◌+◌, ◌<◌, ◌≤◌, [], ◌∷◌, length, IfOk};
+ghost use Rattle.std.specs.Prelude.{◌≡◌, [], ◌∷◌, length, IfOk};
 ghost use Rattle.std.specs.Str.{IsAscii};
+ghost use Rattle.cc_lexer.specs.Cut.{Cut};
 ghost use Rattle.cc_grammar.specs.Lexeme as lexeme;
 ghost use Rattle.cc_grammar.specs.Kinds as kinds_spec;
 ghost use Rattle.cc_grammar.specs.Reading as reading;
 ghost use Rattle.cc_grammar.specs.Reading.{Gives};
-ghost use Rattle.cc_expressions.specs.Fits.{Fits, IsUnit};
+ghost use Rattle.cc_expressions.specs.Fits.{Fits};
 
 use cc_grammar::{Fault, Name, Number};
-use cc_lexer::{Keyword, Mark, Token, TokenKind};
-use ccpp_edge::{Bytes, List, Text};
+use cc_lexer::{Keyword, Mark, Token, TokenKind, unescaped};
+use ccpp_edge::{Bytes, Text};
 use std::alloc::{AllocError, Global};
 use std::marker::Model;
 use std::str;
@@ -47,6 +48,15 @@ fn code(kind: TokenKind) -> u8
 }
 
 impl<'a> Cursor<'a> {
+    /// A cursor before the first of a text's tokens.
+    #[tactic(auto, using(crate::proofs::FitLaws::cut_fits))]
+    pub fn new(tokens: &'a [Token], text: &'a [u8]) -> Cursor<'a>
+        requires { Cut text.now tokens.now }
+        ensures { result ≡ lexeme.lexemes text.now tokens.now }
+    {
+        Cursor { text, tokens }
+    }
+
     /// How many tokens are left.
     pub fn left(&self) -> usize
         ensures { result ≡ length self.now }
@@ -203,7 +213,7 @@ impl<'a> Cursor<'a> {
     }
 
     /// Takes a string, of which it gives the bytes between the quotes with each escape replaced.
-    #[tactic(auto, using(crate::proofs::CursorLaws::token_fails, crate::proofs::CursorLaws::token_takes, crate::proofs::CursorLaws::first_fits, crate::proofs::CursorLaws::first_quoted))]
+    #[tactic(auto, using(crate::proofs::CursorLaws::token_fails, crate::proofs::CursorLaws::token_takes, crate::proofs::CursorLaws::first_fits))]
     pub fn string(&mut self, alloc: Global) -> Result<Bytes, Fault>
         ensures { Gives (reading.string self.old) result self.new }
     {
@@ -212,7 +222,8 @@ impl<'a> Cursor<'a> {
         }
         let token = self.tokens[0];
         self.tokens = &self.tokens[1..];
-        Ok(unescaped(alloc, self.text, token)?)
+        let quoted = &self.text[token.start as usize..token.end as usize];
+        Ok(unescaped(alloc, quoted)?)
     }
 }
 
@@ -235,58 +246,5 @@ fn text_of(alloc: Global, text: &[u8], token: Token) -> Result<Text, AllocError>
     match str::from_utf8(&text[token.start as usize..token.end as usize]) {
         Ok(name) => Text::of(alloc, name),
         Err(_) => unreachable!(),
-    }
-}
-
-/// The bytes between the quotes of a string, each escape replaced.
-#[tactic(auto, using(crate::proofs::CursorLaws::inside_quotes))]
-fn unescaped(alloc: Global, text: &[u8], token: Token) -> Result<Bytes, AllocError>
-    requires fits { Fits text.now token }
-    requires quoted { 2 ≤ length (lexeme.token_text text.now token) }
-    ensures { IfOk result (λ bytes. bytes ≡ lexeme.unescaped (lexeme.token_text text.now token)) }
-{
-    let quoted = &text[token.start as usize..token.end as usize];
-    replace_escapes(alloc, &quoted[1..quoted.len() - 1])
-}
-
-#[tactic(auto, using(crate::proofs::CursorLaws::next_unit, crate::proofs::CursorLaws::all_units))]
-fn replace_escapes(alloc: Global, inside: &[u8]) -> Result<Bytes, AllocError>
-    ensures { IfOk result (λ bytes. bytes ≡ lexeme.replaced_escapes inside.now) }
-{
-    let mut bytes = List::new(alloc);
-    let mut at = 0;
-    while at < inside.len() {
-        let (byte, length) = unit(inside, at);
-        bytes.push(byte)?;
-        at += length;
-    }
-    Ok(bytes)
-}
-
-/// The byte that the escape or the single byte at this place stands for, and how many bytes it has.
-#[tactic(auto, using(crate::proofs::CursorLaws::plain_unit, crate::proofs::CursorLaws::last_unit, crate::proofs::CursorLaws::escape_unit))]
-fn unit(inside: &[u8], at: usize) -> (u8, usize)
-    requires { at < length inside.now }
-    ensures within { at + result.1 ≤ length inside.now }
-    ensures some { 0 < result.1 }
-    ensures value { IsUnit inside.now at result.0 result.1 }
-{
-    if inside[at] != b'\\' {
-        return (inside[at], 1);
-    }
-    if at + 1 == inside.len() {
-        return (inside[at], 1);
-    }
-    (escaped_byte(inside[at + 1]), 2)
-}
-
-/// The byte that a `\` and this byte stand for.
-fn escaped_byte(byte: u8) -> u8
-    ensures { result ≡ lexeme.escaped_byte byte }
-{
-    match byte {
-        b'n' => b'\n',
-        b't' => b'\t',
-        _ => byte,
     }
 }
