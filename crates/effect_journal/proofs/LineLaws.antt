@@ -11,7 +11,7 @@ use Rattle.std.proofs.lemmas.Fmt.{decimal_is_IsNumeral}
 use Rattle.std.proofs.lemmas.Option.{cond_some, none-some, same_Some}
 use Rattle.std.proofs.lemmas.Slice.Eq.{bytes_eq-Decides}
 use Rattle.std.proofs.lemmas.Str.Parse.{digit_from_value, digit_at}
-use Rattle.global_ptr.specs.Names.{fault_name}
+use Rattle.global_ptr.specs.Texts.{fault_name}
 use Rattle.global_ptr.specs.declared.ends.FaultKind.{FaultKind}
 use Rattle.global_ptr.specs.declared.ends.FaultKind.TheVariants.{SyncTwice, Overflow, DivideByZero, IndexOut, NullPointer, StoreFull, ThreadsFull, ProcessorsFull, CallDepth}
 use Rattle.global_ptr.specs.declared.ends.Standing.{Standing}

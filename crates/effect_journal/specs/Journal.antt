@@ -3,7 +3,7 @@ use Rattle.std.specs.Prelude.{◌≡◌, ◌≢◌, ℕ, ◌+◌, ◌/◌, ◌%�
 use Rattle.std.specs.Fmt.{signed_decimal, digit_glyph}
 use Rattle.std.specs.Int.{w64}
 use Rattle.std.specs.List.{AllByRecursion, join_with_byte}
-use Rattle.global_ptr.specs.Names.{fault_name}
+use Rattle.global_ptr.specs.Texts.{fault_name}
 use Rattle.global_ptr.specs.declared.ends.Standing.{Standing}
 use Rattle.global_ptr.specs.declared.ends.Standing.TheVariants.{Done, Blocked, Fault, Limit}
 use Rattle.effect_journal.specs.declared.entry.Entry.{Entry}

@@ -5,7 +5,7 @@ use Rattle.std.specs.List.{list_all, position}
 use Rattle.std.specs.Option.{option_map, option_map_or}
 use Rattle.std.specs.Str.{bytes_eq}
 use Rattle.std.specs.Str.Parse.{digits_value}
-use Rattle.global_ptr.specs.Names.{fault_name}
+use Rattle.global_ptr.specs.Texts.{fault_name}
 use Rattle.global_ptr.specs.declared.ends.FaultKind.{FaultKind}
 use Rattle.global_ptr.specs.declared.ends.FaultKind.TheVariants.{SyncTwice, Overflow, DivideByZero, IndexOut, NullPointer, StoreFull, ThreadsFull, ProcessorsFull, CallDepth}
 use Rattle.global_ptr.specs.declared.ends.Standing.{Standing}

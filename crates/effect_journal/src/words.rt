@@ -3,7 +3,7 @@ ghost use Rattle.std.specs.Char.{is_ascii_digit};
 ghost use Rattle.std.specs.List.{list_all, position};
 ghost use Rattle.std.specs.Option.{option_copied, option_map};
 ghost use Rattle.std.specs.Str.{bytes_eq};
-ghost use Rattle.global_ptr.specs.Names.{fault_name};
+ghost use Rattle.global_ptr.specs.Texts.{fault_name};
 ghost use Rattle.effect_journal.specs.Reading.{cut, after, is_natural, natural_of, short_natural_of, integer_of, negative_of, positive_of, hex_value, unhex, request_of, kind_of};
 
 use ccpp_edge::Bytes;
