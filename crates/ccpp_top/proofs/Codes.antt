@@ -1,5 +1,5 @@
 -- The code of an early program comes to the outcome of the program.
-use Rattle.std.proofs.Common.{◌≡◌, ℕ, List, [], ◌∷◌, ◌++◌, reverse, append_assoc, append-nil, refl, sym, ap, ◌∙◌, subst}
+use Rattle.std.proofs.Common.{◌≡◌, ℕ, List, [], ◌∷◌, ◌++◌, reverse, append_assoc, append-nil, refl, sym, ap, ◌∙◌}
 use Rattle.std.specs.Prelude.{ℤ, pos}
 use Rattle.cc_ops.specs.Values.{Result, Gives, Fails, on_gives}
 use Rattle.std.proofs.lemmas.List.{reverse-reverse}
@@ -22,8 +22,8 @@ use Rattle.ccpp_top.specs.declared.early.Sum.{Sum}
 use Rattle.ccpp_top.specs.declared.early.Summand.{Summand}
 use Rattle.ccpp_top.specs.declared.early.Product.{Product}
 use Rattle.ccpp_top.specs.Early as early_spec
-use Rattle.ccpp_top.specs.Outcome.{sign_operator, operate, combine, multiplied, product_value, totalled, sum_value, item_values, or_fault, done_by, outcome_from, outcome}
-use Rattle.ccpp_top.specs.Code.{Code, factors_code, product_code, summands_code, sum_code, item_code, items_code, parts_of, core_parts, kind_code, statement_code, statements_code, code_of, executed}
+use Rattle.ccpp_top.specs.Outcome.{sign_operator, combine, multiplied, product_value, totalled, sum_value, item_values, or_fault, done_by, outcome_from, outcome}
+use Rattle.ccpp_top.specs.Code.{Code, factors_code, product_code, summands_code, sum_code, items_code, parts_of, core_parts, kind_code, statement_code, statements_code, code_of, executed}
 
 -- values put on a stack one after another
 abbrev onto : List ℤ → List ℤ → List ℤ

@@ -1,6 +1,6 @@
 -- What the reader of a text's tokens says of the text.
-use Rattle.std.proofs.Common.{◌≡◌, ℕ, suc, ◌+◌, ◌<◌, ◌≤◌, List, [], ◌∷◌, ◌++◌, length, length-append, append-nil, sym, ap, ◌∙◌, subst, arith}
-use Rattle.std.specs.Prelude.{ℤ, map}
+use Rattle.std.proofs.Common.{◌≡◌, ℕ, suc, ◌+◌, ◌<◌, ◌≤◌, List, [], ◌∷◌, length, length-append, append-nil, sym, ap, ◌∙◌, arith}
+use Rattle.std.specs.Prelude.{ℤ}
 use Rattle.std.proofs.lemmas.List.{length-map}
 use Rattle.cc_lexer.specs.declared.token.Token.{Token}
 use Rattle.cc_lexer.specs.Cut.{Cut}
@@ -15,7 +15,7 @@ use Rattle.ccpp_top.specs.declared.early.Item.TheVariants as i
 use Rattle.ccpp_top.specs.declared.early.Sum.{Sum}
 use Rattle.ccpp_top.specs.declared.early.Summand.{Summand}
 use Rattle.ccpp_top.specs.declared.early.Product.{Product}
-use Rattle.ccpp_top.specs.Grammar.{Pieces, Is, all, factor, product, summand, sum, out, next_out, line_of_kind, statement, program, piece_of, pieces, IsEarlySource, IsNoEarlySource}
+use Rattle.ccpp_top.specs.Grammar.{Pieces, Is, all, factor, product, summand, sum, next_out, line_of_kind, statement, program, piece_of, pieces, IsEarlySource, IsNoEarlySource}
 use Rattle.ccpp_top.specs.Outcome.{product_steps, summands_steps, sum_steps, items_steps, kind_steps, statements_steps, most_steps}
 use Rattle.ccpp_top.specs.Answers.{step_limit}
 use Rattle.ccpp_top.specs.Reading.{Reading, Read, Unread}

@@ -1,16 +1,15 @@
 -- What main does at the statements of an early program: a run of the source comes to the outcome of the program.
-use Rattle.std.proofs.Common.{◌≡◌, ℕ, zero, suc, ◌+◌, ◌<◌, ◌≤◌, List, [], ◌∷◌, ◌++◌, length, refl, sym, ap, ◌∙◌, subst, arith}
+use Rattle.std.proofs.Common.{◌≡◌, ℕ, suc, ◌+◌, ◌<◌, List, [], ◌∷◌, ◌++◌, length, refl, sym, subst, arith}
 use Rattle.std.proofs.lemmas.List.{length-replicate}
 use Rattle.std.specs.Prelude.{ℤ, pos}
-use Rattle.global_ptr.specs.declared.ends.FaultKind.{FaultKind}
 use Rattle.global_ptr.specs.declared.ends.Standing.{Standing}
-use Rattle.global_ptr.specs.declared.ends.Standing.TheVariants.{Done, Fault}
-use Rattle.cc_ops.specs.Values.{Void, Int, IntC, Result, Gives, Fails, on_gives}
+use Rattle.global_ptr.specs.declared.ends.Standing.TheVariants.{Done}
+use Rattle.cc_ops.specs.Values.{Void, Int, Result, Gives, Fails, on_gives}
 use Rattle.cc_core.specs.Names.{Value}
-use Rattle.cc_core.specs.Core.{Env, Term, Val, Body, Terms, NoTerms, MoreTerms, Stmt, Empty, AtLine, Print, Return, Left, Stmts, NoStmts, MoreStmts, Program}
-use Rattle.cc_core.specs.Asks.{Ask, Answer, Prints, Leaves}
+use Rattle.cc_core.specs.Core.{Env, Term, Val, Body, Terms, MoreTerms, Stmt, Empty, AtLine, Print, Return, Left, Stmts, MoreStmts, Program}
+use Rattle.cc_core.specs.Asks.{Prints, Leaves}
 use Rattle.cc_core.specs.Effects.{printed}
-use Rattle.cc_core.specs.Next.{Next, Ready, Asks, After, on_ready, next_term, next_terms, next_stmt, next_stmts, next, just, does, Ending, Falls, Returns, body_ends, and_then}
+use Rattle.cc_core.specs.Next.{Next, Ready, Asks, on_ready, next_terms, next_stmt, next_stmts, just, does, Ending, body_ends, and_then}
 use Rattle.cc_core.specs.Steps.{ints, start}
 use Rattle.ccpp_top.specs.declared.outcome.Outcome.{Outcome}
 use Rattle.ccpp_top.specs.declared.early.Early.{Early}

@@ -1,18 +1,16 @@
 -- What main does at a sum: so many steps, and then it has the sum's value or is at the first fault.
-use Rattle.std.proofs.Common.{◌≡◌, ℕ, zero, suc, ◌+◌, ◌≤◌, List, [], ◌∷◌, length, refl, sym, ap, ◌∙◌, subst, arith}
+use Rattle.std.proofs.Common.{◌≡◌, ℕ, suc, ◌+◌, List, [], ◌∷◌, length, refl, sym, ap, ◌∙◌, subst, arith}
 use Rattle.std.specs.Prelude.{ℤ, ◌+ℤ◌, ◌-ℤ◌, ◌*ℤ◌, Bool, true, false, if◌then◌else◌}
 use Rattle.global_ptr.specs.declared.ends.FaultKind.TheVariants.{Overflow}
-use Rattle.global_ptr.specs.declared.ends.FaultKind.{FaultKind}
 use Rattle.global_ptr.specs.declared.ends.Standing.{Standing}
 use Rattle.global_ptr.specs.declared.ends.Standing.TheVariants.{Fault}
-use Rattle.cc_ops.specs.Values.{Void, Int, IntC, first, Result, Gives, Fails, int_of, on_gives}
+use Rattle.cc_ops.specs.Values.{Void, Int, IntC, first, Result, Gives, Fails, on_gives}
 use Rattle.cc_ops.specs.Operators.{compute, number, fits}
 use Rattle.cc_ops.specs.declared.operator.Op.{Op}
 use Rattle.cc_ops.specs.declared.operator.Op.TheVariants.{Mul, Add, Sub}
-use Rattle.cc_core.specs.Names.{Name, same_name, Value}
+use Rattle.cc_core.specs.Names.{same_name, Value}
 use Rattle.cc_core.specs.Core.{Term, Push, Binary, Val, Program}
-use Rattle.cc_core.specs.Asks.{Ask, Answer, Computes}
-use Rattle.cc_core.specs.Next.{Next, Ready, Asks, After, on_ready, next_term, next, gives}
+use Rattle.cc_core.specs.Next.{Next, Ready, Asks, on_ready, next_term, next}
 use Rattle.ccpp_top.specs.declared.early.Summand.{Summand}
 use Rattle.ccpp_top.specs.declared.early.Sign.{Sign}
 use Rattle.ccpp_top.specs.declared.early.Sign.TheVariants.{Plus, Minus}
@@ -21,7 +19,7 @@ use Rattle.ccpp_top.specs.declared.early.Sum.{Sum}
 use Rattle.ccpp_top.specs.declared.operator.Operator.{Operator}
 use Rattle.ccpp_top.specs.declared.operator.Operator.TheVariants as operator
 use Rattle.ccpp_top.specs.Early.{times, plus, op_of, product_term, sum_term}
-use Rattle.ccpp_top.specs.Outcome.{operate, fitted, exact, combine, multiplied, product_value, totalled, sum_value, sign_operator, product_steps, summands_steps, sum_steps}
+use Rattle.ccpp_top.specs.Outcome.{operate, fitted, combine, multiplied, product_value, totalled, sum_value, sign_operator, product_steps, summands_steps, sum_steps}
 use Rattle.ccpp_top.proofs.Runs.{Ends, longer, ends_computes, ends_fails}
 
 -- parts in parts

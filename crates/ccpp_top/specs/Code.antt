@@ -5,7 +5,6 @@ use Rattle.cc_core.specs.Core as core
 use Rattle.cc_core.specs.Effects.{printed}
 use Rattle.cc_core.specs.Steps.{ints}
 use Rattle.ccpp_top.specs.declared.outcome.Outcome.{Outcome}
-use Rattle.ccpp_top.specs.declared.operator.Operator.{Operator}
 use Rattle.ccpp_top.specs.declared.operator.Operator.TheVariants.{Multiply}
 use Rattle.ccpp_top.specs.declared.code.Instr.{Instr}
 use Rattle.ccpp_top.specs.declared.code.Instr.TheVariants.{Push, Operate, Print, Return}

@@ -9,8 +9,6 @@ use Rattle.cc_core.specs.Steps.{ints}
 use Rattle.ccpp_top.specs.Early.{parts_of}
 use Rattle.cc_ops.specs.Values.{Result, Gives, Fails, on_gives}
 use Rattle.cc_ops.specs.Operators.{fits}
-use Rattle.cc_ops.specs.declared.operator.Op.{Op}
-use Rattle.cc_ops.specs.declared.operator.Op.TheVariants as op
 use Rattle.ccpp_top.specs.declared.operator.Operator.{Operator}
 use Rattle.ccpp_top.specs.declared.operator.Operator.TheVariants.{Add, Subtract, Multiply}
 use Rattle.ccpp_top.specs.declared.outcome.Outcome.{Outcome}

@@ -12,14 +12,22 @@ use ccpp_edge::{Memory, Shelf, ShelfFault};
 use std::alloc::{AllocError, Global};
 
 /// What is answered to the words. It reads from the shelf at most once, and writes nothing to it.
-pub(crate) fn answer_to<S: Shelf>(alloc: Global, words: &[Word], shelf: &mut S) -> Result<Answer, Memory>
+pub(crate) fn answer_to<S: Shelf>(
+    alloc: Global,
+    words: &[Word],
+    shelf: &mut S,
+) -> Result<Answer, Memory>
     ensures says { IfOk result (λ answer. Says words.now (S.held shelf.old) (S.faults shelf.old) (S.faults shelf.new) answer.text answer.status) }
     ensures held { S.held shelf.new ≡ S.held shelf.old }
 {
     match Command::of(alloc, words) {
         Ok(Command::Run { file }) => answer_to_run(alloc, file.as_str(), shelf),
         Err(WordsFault::Wrong { place }) => {
-            Answer::line(alloc, Status::WordsRefused, format!(in alloc; "words refused at {place}")?.as_str())
+            Answer::line(
+                alloc,
+                Status::WordsRefused,
+                format!(in alloc; "words refused at {place}")?.as_str(),
+            )
         }
         Err(WordsFault::Memory) => Err(AllocError),
     }
@@ -32,7 +40,11 @@ fn answer_to_run<S: Shelf>(alloc: Global, file: &str, shelf: &mut S) -> Result<A
 {
     match shelf.read(file) {
         Ok(source) => answer_of(alloc, source.as_slice()),
-        Err(ShelfFault::Absent) => Answer::line(alloc, Status::NoFile, format!(in alloc; "no file {file}")?.as_str()),
+        Err(ShelfFault::Absent) => Answer::line(
+            alloc,
+            Status::NoFile,
+            format!(in alloc; "no file {file}")?.as_str(),
+        ),
         Err(ShelfFault::Failed) => Answer::line(alloc, Status::ReadFault, "read fault"),
         Err(ShelfFault::Memory) => Err(AllocError),
     }

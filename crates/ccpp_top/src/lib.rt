@@ -3,9 +3,9 @@
 
 mod answer;
 mod answers;
+mod call;
 mod code;
 mod command;
-mod call;
 mod cursor;
 mod early;
 mod fault;
@@ -18,6 +18,8 @@ mod run;
 mod source;
 mod stack;
 mod status;
+#[cfg(test)]
+mod tests;
 mod word;
 
 pub use call::ccpp;
