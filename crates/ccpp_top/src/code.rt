@@ -98,7 +98,7 @@ fn add_sum(code: &mut Code, line: u32, sum: &Sum) -> Result<(), Memory>
     add_product(code, line, &sum.first)?;
     for summand in sum.rest.as_slice() {
         add_product(code, line, &summand.product)?;
-        let operator = Operator::of(summand.sign);
+        let operator = Operator::from(summand.sign);
         code.push(Instr::Operate { operator, line })?;
     }
     Ok(())
