@@ -2,7 +2,6 @@
 #![tactic(auto)]
 
 mod answer;
-mod answers;
 mod call;
 mod code;
 mod command;

@@ -5,7 +5,7 @@ ghost use Rattle.ccpp_top.specs.Source.{IsRefusedFor, lex_fault_text};
 use crate::early::Early;
 use crate::fault::EarlyFault;
 use crate::parse::parse;
-use cc_lexer::{LexFault, laws, lex};
+use cc_lexer::{LexFault, lex};
 use ccpp_edge::Memory;
 use std::alloc::{AllocError, Global};
 
@@ -99,7 +99,5 @@ pub(crate) fn read_source(alloc: Global, text: &[u8]) -> Result<Early, Refusal>
     ensures refused { IfErr result (λ why. why ≢ Refusal.Memory → IsRefusedFor text.now why) }
 {
     let tokens = lex(alloc, text)?;
-    laws::one_cut();
-    laws::one_fault();
     Ok(parse(alloc, text, tokens.as_slice())?)
 }
