@@ -1,1 +1,6 @@
 pub mod ViewLaws
+pub mod Maps
+pub mod StepLaws
+pub mod Forks
+pub mod Fresh
+pub mod Stays

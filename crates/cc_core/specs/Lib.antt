@@ -7,6 +7,7 @@ pub mod Needs
 pub mod Effects
 pub mod Steps
 pub mod Report
+pub mod Laws
 pub mod Source
 pub mod Numbers
 pub mod Types

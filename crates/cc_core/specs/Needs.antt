@@ -1,8 +1,8 @@
 -- What an ask needs of the configuration, in the order in which its faults count: the table of steps and faults.
-use Rattle.std.specs.Prelude.{ℕ, ◌+◌, Bool, true, false, ◌&&◌, ◌||◌, nat_le, nat_lt, if◌then◌else◌, ℤ, pos}
-use Rattle.std.specs.Prelude.{◌+ℤ◌, int_lt, nat_abs, List, [], ◌∷◌, ◌++◌, length, map, Option, Some, None}
+use Rattle.std.specs.Prelude.{ℕ, ◌+◌, Bool, true, false, ◌&&◌, ◌||◌, nat_le, nat_lt, if◌then◌else◌}
+use Rattle.std.specs.Prelude.{List, [], ◌∷◌, ◌++◌, length, map, Option, Some, None}
 use Rattle.std.specs.FinMap as fin
-use Rattle.cc_ops.specs.Values.{Void, Int, Null, Ptr, int_of, Plain, Empty, Full, moved, last_offset, Result, Gives, Fails, on_gives}
+use Rattle.cc_ops.specs.Values.{Void, Int, Null, Ptr, int_of, Plain, Empty, Full, Result, Gives, Fails, on_gives}
 use Rattle.cc_ops.specs.Operators.{compute}
 use Rattle.cc_ops.specs.Addresses.{indexed, shifted}
 use Rattle.cc_ops.specs.Classes.{construct, arity, size}

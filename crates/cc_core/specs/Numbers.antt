@@ -2,6 +2,7 @@
 -- of a fork in the order of the text and parameters in their order; and what a remote operation posts, under these numbers.
 use Rattle.std.specs.Prelude.{ℕ, suc, true, List, [], ◌∷◌, ◌++◌, map, Option, Some, None, ℤ, if◌then◌else◌}
 use Rattle.std.specs.FinMap as fin
+use Rattle.cc_ops.specs.Machine.{Address}
 use Rattle.cc_ops.specs.Values as values
 use Rattle.cc_ops.specs.Values.{Void, Int, Null, Ptr}
 use Rattle.cc_core.specs.Names.{Name, same_name, Map, Value}
@@ -75,10 +76,6 @@ numbers_step p t s n = after_change n (changes p t s (fin.get s.threads t))
 abbrev pub first_place : List Name → Name → ℕ
 first_place [] t = 0
 first_place (u ∷ us) t = if same_name t u then 0 else suc (first_place us t)
-
-pub record Address : Type 0 where
-  pub processor : ℕ
-  pub object : ℕ
 
 -- the numbers of an object: its processor's, and its own there
 abbrev pub address : Config → Numbers → Name → Address

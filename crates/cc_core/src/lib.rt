@@ -1,6 +1,8 @@
+//! What programs mean: the core language, its steps, runs and standings, and reports.
 #![tactic(auto)]
 
 mod expression;
+pub mod laws;
 mod statement;
 
 pub use expression::{Constant, Expression, How, PrintPart};

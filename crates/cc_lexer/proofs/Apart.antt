@@ -1,5 +1,5 @@
 -- What does not stand at a place of another class.
-use Rattle.std.proofs.Common.{◌≡◌, ◌≢◌, ℕ, List, [], ◌∷◌, ◌++◌, length, refl, ap, sym, ◌∙◌, arith}
+use Rattle.std.proofs.Common.{◌≡◌, ◌≢◌, ℕ, refl, ap, sym, ◌∙◌}
 use Rattle.std.specs.Prelude.{codes, IsTrue}
 use Rattle.cc_lexer.specs.declared.class.Class.{Class}
 use Rattle.cc_lexer.specs.declared.class.Class.TheVariants as class

@@ -1,20 +1,18 @@
 -- What may begin at a place is settled by the first bytes there.
-use Rattle.std.proofs.Common.{◌≡◌, ◌≢◌, ℕ, zero, suc, ◌+◌, ◌-◌, ◌<◌, ◌≤◌, Bool, true, false, ◌||◌, ◌&&◌, not, ◌==◌, cond, eqb, List, [], ◌∷◌, ◌++◌, length, take, drop, refl, ap, sym, ◌∙◌, arith, rules}
-use Rattle.std.proofs.lemmas.Bool.{and_parts, eqb-true, cases_Bool}
+use Rattle.std.proofs.Common.{◌≡◌, ℕ, true, false, not, ◌==◌, [], ◌∷◌, refl, ap, ◌∙◌, arith}
+use Rattle.std.proofs.lemmas.Bool.{and_parts}
 use Rattle.std.proofs.lemmas.Bool.Decides.{nat_tests}
-use Rattle.std.specs.Prelude.{codes, nat_le, if◌then◌else◌}
-use Rattle.std.specs.List.{list_any}
 use Rattle.cc_lexer.specs.declared.token.Keyword.{Keyword}
 use Rattle.cc_lexer.specs.declared.token.Keyword.TheVariants as keyword
 use Rattle.cc_lexer.specs.declared.token.Mark.{Mark}
 use Rattle.cc_lexer.specs.declared.token.Mark.TheVariants as mark
 use Rattle.cc_lexer.specs.declared.token.TokenKind.{TokenKind}
 use Rattle.cc_lexer.specs.declared.token.TokenKind.TheVariants.{Name, Int, Str, Word, Mark as Marked}
-use Rattle.cc_lexer.specs.Spelling.{Text, is_digit, is_letter, is_word, is_number, is_inside, keyword_text, mark_text, Spells, IsName, IsString}
+use Rattle.cc_lexer.specs.Spelling.{Text, is_digit, is_letter, is_word, is_number, keyword_text, mark_text, Spells}
 use Rattle.cc_lexer.specs.declared.class.Class.{Class}
 use Rattle.cc_lexer.specs.declared.class.Class.TheVariants as class
-use Rattle.cc_lexer.specs.Cut.{Begins, is_blank, Stands}
-use Rattle.cc_lexer.specs.Next.{byte_class, class_at}
+use Rattle.cc_lexer.specs.Cut.{is_blank}
+use Rattle.cc_lexer.specs.Next.{byte_class}
 
 abbrev pub class_of : TokenKind → Class
 class_of Name = class.Letter

@@ -1,22 +1,20 @@
 -- The longest token at a place, by the class of what stands there.
-use Rattle.std.proofs.Common.{◌≡◌, ◌≢◌, ℕ, zero, suc, ◌+◌, ◌<◌, ◌≤◌, Bool, true, false, ◌&&◌, ◌||◌, not, ◌==◌, cond, List, [], ◌∷◌, ◌++◌, length, take, drop, get_or, ℤ, pos, ◌≤ℤ◌, ◌<ℤ◌, ◌⊎◌, inl, inr, refl, ap, sym, subst, ◌∙◌, arith}
+use Rattle.std.proofs.Common.{◌≡◌, ◌≢◌, ℕ, ◌<◌, ◌≤◌, true, false, not, ◌==◌, [], ◌∷◌, length, take, get_or, ℤ, pos, ◌<ℤ◌, ◌⊎◌, inl, inr, refl, ap, sym, subst, ◌∙◌, arith}
 use Rattle.std.proofs.Math.Numerals.{one-add}
 use Rattle.std.proofs.lemmas.Bool.{and_parts, and_from, or_left, ne_eqb, cases_lt}
 use Rattle.std.proofs.lemmas.List.Sums.{prefix_len-le-length}
 use Rattle.std.proofs.lemmas.Int.{ints}
-use Rattle.std.specs.Prelude.{codes, Ok, Err, Some, SomeIff}
+use Rattle.std.specs.Prelude.{Ok, Err, Some, SomeIff}
 use Rattle.std.specs.List.{list_all, prefix_len}
-use Rattle.cc_lexer.specs.declared.class.Class.{Class}
 use Rattle.cc_lexer.specs.declared.class.Class.TheVariants as class
 use Rattle.cc_lexer.specs.declared.piece.Piece.TheVariants as piece
 use Rattle.cc_lexer.specs.declared.token.Keyword.{Keyword}
-use Rattle.cc_lexer.specs.declared.token.Mark.{Mark}
 use Rattle.cc_lexer.specs.declared.token.TokenKind.{TokenKind}
-use Rattle.cc_lexer.specs.declared.token.TokenKind.TheVariants.{Name, Int, Str, Word, Mark as Marked}
-use Rattle.cc_lexer.specs.declared.fault.LexFault.TheVariants.{BadByte, LongName, NumberTooLarge}
-use Rattle.cc_lexer.specs.Spelling.{Text, is_letter, is_digit, is_word_byte, is_word, is_number, keyword_text, IsName, Spells, decimal_value}
-use Rattle.cc_lexer.specs.Cut.{Begins, Stands, IsLongest, longest_name, largest_number}
-use Rattle.cc_lexer.specs.Faults.{long_name, large_number, bad_byte}
+use Rattle.cc_lexer.specs.declared.token.TokenKind.TheVariants.{Name, Int, Word}
+use Rattle.cc_lexer.specs.declared.fault.LexFault.TheVariants.{LongName, NumberTooLarge}
+use Rattle.cc_lexer.specs.Spelling.{Text, is_letter, is_digit, is_word_byte, is_word, is_number, keyword_text, Spells, decimal_value}
+use Rattle.cc_lexer.specs.Cut.{IsLongest, longest_name, largest_number}
+use Rattle.cc_lexer.specs.Faults.{long_name, large_number}
 use Rattle.cc_lexer.specs.Next.{class_at, IsNext}
 use Rattle.cc_lexer.proofs.Classes.{class_of, word_is}
 use Rattle.cc_lexer.proofs.Moves.{stands_class}

@@ -1,5 +1,5 @@
 -- The longest mark at a place.
-use Rattle.std.proofs.Common.{◌≡◌, ◌≢◌, ◌⊎◌, inl, inr, ℕ, zero, suc, ◌<◌, ◌≤◌, Bool, true, ◌&&◌, List, [], ◌∷◌, length, take, get_or, Option, Some, None, refl, ap, sym, ◌∙◌, arith, length-take, length-take-le}
+use Rattle.std.proofs.Common.{◌≡◌, ◌⊎◌, inl, inr, ℕ, zero, suc, ◌≤◌, true, ◌&&◌, [], ◌∷◌, length, take, get_or, refl, ap, sym, ◌∙◌, arith, length-take, length-take-le}
 use Rattle.std.proofs.lemmas.Bool.{and_parts, leb-true}
 use Rattle.std.specs.Prelude.{codes, nat_le, Ok, Err}
 use Rattle.cc_lexer.specs.declared.class.Class.TheVariants as class
@@ -7,10 +7,10 @@ use Rattle.cc_lexer.specs.declared.piece.Piece.TheVariants as piece
 use Rattle.cc_lexer.specs.declared.token.Mark.{Mark}
 use Rattle.cc_lexer.specs.declared.token.Mark.TheVariants as mark
 use Rattle.cc_lexer.specs.declared.token.TokenKind.{TokenKind}
-use Rattle.cc_lexer.specs.declared.token.TokenKind.TheVariants.{Name, Int, Str, Word, Mark as Marked}
+use Rattle.cc_lexer.specs.declared.token.TokenKind.TheVariants.{Mark as Marked}
 use Rattle.cc_lexer.specs.declared.fault.LexFault.TheVariants.{BadByte}
 use Rattle.cc_lexer.specs.Spelling.{Text, mark_text, Spells}
-use Rattle.cc_lexer.specs.Cut.{Begins, Stands, NoneStands, IsLongest, IsBlank}
+use Rattle.cc_lexer.specs.Cut.{Begins, NoneStands, IsBlank}
 use Rattle.cc_lexer.specs.Faults.{bad_byte}
 use Rattle.cc_lexer.specs.Next.{class_at, IsNext}
 use Rattle.cc_lexer.proofs.Classes.{class_of}

@@ -1,5 +1,5 @@
 -- A text is spelled like a token of one kind at most.
-use Rattle.std.proofs.Common.{◌≡◌, ◌↔◌, ℕ, Bool, true, false, ◌==◌, cond, length, filter, List, [], ◌∷◌, Option, Some, None, pos, refl, ap, sym, ◌∙◌}
+use Rattle.std.proofs.Common.{◌≡◌, ◌↔◌, Bool, true, false, ◌==◌, cond, length, filter, List, [], ◌∷◌, Option, Some, refl, ap, sym, ◌∙◌}
 use Rattle.std.proofs.lemmas.Bool.{eq-eqb}
 use Rattle.std.proofs.lemmas.Slice.Eq.{bytes_eq-Decides}
 use Rattle.std.specs.Prelude.{find}
@@ -12,7 +12,7 @@ use Rattle.cc_lexer.specs.declared.token.TokenKind.{TokenKind}
 use Rattle.cc_lexer.specs.declared.token.TokenKind.TheVariants.{Name, Int, Str, Word, Mark as Marked}
 use Rattle.cc_lexer.specs.Spelling.{Text, keyword_text, mark_text, Spells}
 use Rattle.cc_lexer.specs.Keywords.{keywords, keywords_of_length}
-use Rattle.cc_lexer.proofs.Classes.{class_of, first_class, spelled_class}
+use Rattle.cc_lexer.proofs.Classes.{class_of, spelled_class}
 
 abbrev pub marks : List Mark
 marks = mark.OpenParen ∷ mark.CloseParen ∷ mark.OpenBrace ∷ mark.CloseBrace ∷ mark.OpenBracket ∷ mark.CloseBracket ∷ mark.Semicolon ∷ mark.Comma ∷ mark.Colon ∷ mark.Dot ∷ mark.Assign ∷ mark.Plus ∷ mark.Minus ∷ mark.Star ∷ mark.Slash ∷ mark.Percent ∷ mark.Less ∷ mark.Greater ∷ mark.Not ∷ mark.Ampersand ∷ mark.Arrow ∷ mark.Equal ∷ mark.NotEqual ∷ mark.LessEqual ∷ mark.GreaterEqual ∷ mark.And ∷ mark.Or ∷ mark.LessLess ∷ mark.PlusPlus ∷ mark.MinusMinus ∷ mark.PlusAssign ∷ mark.MinusAssign ∷ mark.StarAssign ∷ mark.SlashAssign ∷ mark.PercentAssign ∷ []

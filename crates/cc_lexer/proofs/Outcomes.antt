@@ -1,10 +1,9 @@
 -- A text has one outcome: one cut, or one first fault.
-use Rattle.std.proofs.Common.{◌≡◌, ℕ, ◌+◌, ◌-◌, ◌<◌, ◌≤◌, List, [], ◌∷◌, ◌++◌, length, take, drop, Result, Ok, Err, refl, ap, sym, subst, ◌∙◌, arith}
+use Rattle.std.proofs.Common.{◌≡◌, ℕ, ◌+◌, ◌-◌, List, [], ◌∷◌, ◌++◌, length, take, drop, Result, Ok, Err, refl, ap, sym, subst, ◌∙◌, arith}
 use Rattle.std.proofs.lemmas.List.{append_assoc, append-nil, drop_all}
 use Rattle.std.specs.Prelude.{count_by}
 use Rattle.cc_lexer.specs.declared.token.Token.{Token}
 use Rattle.cc_lexer.specs.declared.fault.LexFault.{LexFault}
-use Rattle.cc_lexer.specs.declared.fault.LexFault.TheVariants.{TooLong}
 use Rattle.cc_lexer.specs.Spelling.{Text}
 use Rattle.cc_lexer.specs.Cut.{IsBlank, IsTokenOf, is_line_feed, IsCutTo, nothing, blank, token, Cut}
 use Rattle.cc_lexer.specs.Faults.{IsFault, FirstFault, too_long, at_place}

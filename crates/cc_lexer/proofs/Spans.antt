@@ -1,12 +1,11 @@
 -- The tokens of a text that is cut.
-use Rattle.std.proofs.Common.{◌≡◌, ℕ, ◌+◌, ◌-◌, ◌<◌, ◌≤◌, List, [], ◌∷◌, ◌++◌, length, take, drop, get_or, ℤ, pos, ◌≤ℤ◌, refl, ap, sym, subst, ◌∙◌, arith, length-drop, length-append, length-take-le}
+use Rattle.std.proofs.Common.{◌≡◌, ℕ, ◌+◌, ◌-◌, ◌<◌, ◌≤◌, List, [], ◌∷◌, ◌++◌, length, take, drop, ℤ, pos, ◌≤ℤ◌, refl, ap, sym, subst, ◌∙◌, arith, length-drop, length-append, length-take-le}
 use Rattle.std.proofs.lemmas.Int.{ints}
 use Rattle.std.proofs.lemmas.List.{take_at}
 use Rattle.std.proofs.lemmas.List.Elements.{All-nil, All-push, All-weaker}
 use Rattle.std.proofs.lemmas.List.Quantifiers.{all_pairs_push}
 use Rattle.std.specs.Prelude.{codes, All, AllPairs}
 use Rattle.cc_lexer.specs.declared.token.Token.{Token}
-use Rattle.cc_lexer.specs.declared.token.TokenKind.{TokenKind}
 use Rattle.cc_lexer.specs.declared.token.TokenKind.TheVariants.{Name, Int}
 use Rattle.cc_lexer.specs.Spelling.{Text, Spells, decimal_value}
 use Rattle.cc_lexer.specs.Cut.{IsTokenOf, IsWithinLimits, IsCutTo, longest_name, largest_number, nothing, blank, token, Cut}

@@ -1,5 +1,5 @@
 -- One blank or token after another.
-use Rattle.std.proofs.Common.{◌≡◌, ◌≢◌, ◌⊎◌, inl, inr, ℕ, zero, suc, ◌+◌, ◌-◌, ◌<◌, ◌≤◌, Bool, true, false, ◌||◌, ◌&&◌, ◌==◌, not, cond, List, [], ◌∷◌, ◌++◌, length, take, drop, Result, Ok, Err, refl, ap, sym, subst, ◌∙◌, arith, zero-add, add-zero, length-drop, length-append}
+use Rattle.std.proofs.Common.{◌≡◌, ◌≢◌, ℕ, zero, suc, ◌+◌, ◌-◌, ◌<◌, ◌≤◌, Bool, true, false, ◌&&◌, ◌==◌, not, cond, List, [], ◌∷◌, ◌++◌, length, take, drop, Result, Ok, Err, refl, ap, sym, subst, ◌∙◌, arith, zero-add, add-zero, length-drop}
 use Rattle.std.proofs.Math.Seq.{take-add}
 use Rattle.std.proofs.lemmas.Bool.{and_parts, and_from, eqb-true}
 use Rattle.std.proofs.lemmas.Bool.Decides.{nat_tests}
@@ -7,8 +7,6 @@ use Rattle.std.proofs.lemmas.List.Sums.{sum_by-cons, sum_by-append, prefix_len-l
 use Rattle.std.specs.Prelude.{codes, count_by, IfOk, IfErr}
 use Rattle.std.specs.List.{list_all}
 use Rattle.cc_lexer.specs.declared.piece.Piece.TheVariants as piece
-use Rattle.cc_lexer.specs.declared.token.Keyword.{Keyword}
-use Rattle.cc_lexer.specs.declared.token.Keyword.TheVariants as keyword
 use Rattle.cc_lexer.specs.declared.token.Mark.{Mark}
 use Rattle.cc_lexer.specs.declared.token.Mark.TheVariants as mark
 use Rattle.cc_lexer.specs.declared.token.Token.{Token}
@@ -16,8 +14,8 @@ use Rattle.cc_lexer.specs.declared.token.TokenKind.{TokenKind}
 use Rattle.cc_lexer.specs.declared.token.TokenKind.TheVariants.{Name, Int, Str, Word, Mark as Marked}
 use Rattle.cc_lexer.specs.declared.fault.LexFault.{LexFault}
 use Rattle.cc_lexer.specs.declared.fault.LexFault.TheVariants.{Memory}
-use Rattle.cc_lexer.specs.Spelling.{Text, is_letter, is_word_byte, is_digit, is_word, is_number, is_inside, is_plain, is_escape, keyword_text, mark_text, Spells}
-use Rattle.cc_lexer.specs.Cut.{Begins, is_line_feed, line_length, IsBlank, byte, line_comment, comment, include_line, IsLongest, IsWithinLimits, IsTokenOf, IsCutTo, nothing, blank, token, longest_text, Cut}
+use Rattle.cc_lexer.specs.Spelling.{Text, is_word_byte, is_digit, is_word, is_inside, is_plain, is_escape, mark_text, Spells}
+use Rattle.cc_lexer.specs.Cut.{is_line_feed, line_length, IsBlank, byte, line_comment, comment, include_line, IsLongest, IsWithinLimits, IsCutTo, nothing, blank, token, longest_text, Cut}
 use Rattle.cc_lexer.specs.Faults.{IsFault, FirstFault, at_place}
 use Rattle.cc_lexer.specs.Next.{IsNext}
 use Rattle.cc_lexer.proofs.Classes.{spelled_class, word_is}

@@ -1,12 +1,12 @@
 -- A string at a place, or where it breaks off.
-use Rattle.std.proofs.Common.{◌≡◌, ◌≢◌, ℕ, suc, ◌+◌, ◌-◌, ◌<◌, ◌≤◌, Bool, true, false, ◌==◌, eqb, List, [], ◌∷◌, ◌++◌, length, take, drop, get_or, refl, ap, sym, ◌∙◌, arith, add-one, length-drop, length-take-le, length-append, take-append-drop}
+use Rattle.std.proofs.Common.{◌≡◌, ℕ, ◌+◌, ◌-◌, ◌<◌, ◌≤◌, true, false, [], ◌∷◌, ◌++◌, length, take, drop, get_or, ap, sym, ◌∙◌, arith, length-drop, length-take-le, length-append, take-append-drop}
 use Rattle.std.proofs.lemmas.Bool.{eqb-true, ne_eqb}
 use Rattle.std.proofs.lemmas.List.{drop_more, drop_all, take_at, get_or-drop, append_assoc}
 use Rattle.std.specs.Prelude.{codes, Ok, Err}
 use Rattle.cc_lexer.specs.declared.class.Class.TheVariants as class
 use Rattle.cc_lexer.specs.declared.piece.Piece.TheVariants as piece
 use Rattle.cc_lexer.specs.declared.token.TokenKind.{TokenKind}
-use Rattle.cc_lexer.specs.declared.token.TokenKind.TheVariants.{Name, Int, Str, Word, Mark as Marked}
+use Rattle.cc_lexer.specs.declared.token.TokenKind.TheVariants.{Str}
 use Rattle.cc_lexer.specs.declared.fault.LexFault.TheVariants.{BadByte, OpenString}
 use Rattle.cc_lexer.specs.Spelling.{Text, is_inside, IsString, Spells}
 use Rattle.cc_lexer.specs.Cut.{Begins}

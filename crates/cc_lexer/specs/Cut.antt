@@ -1,5 +1,5 @@
 -- The cut of a text into blanks and tokens.
-use Rattle.std.specs.Prelude.{◌≡◌, ℕ, ◌+◌, ◌-◌, ◌≤◌, ◌<◌, Bool, ◌&&◌, ◌||◌, not, ◌==◌, nat_le, nat_eq, pos, ◌≤ℤ◌, List, [], ◌∷◌, ◌++◌, length, take, drop, reverse, codes, count_by, take_while, IsTrue}
+use Rattle.std.specs.Prelude.{◌≡◌, ℕ, ◌+◌, ◌-◌, ◌≤◌, Bool, ◌&&◌, ◌||◌, not, ◌==◌, nat_le, pos, ◌≤ℤ◌, List, [], ◌∷◌, ◌++◌, length, take, drop, reverse, codes, count_by, take_while, IsTrue}
 use Rattle.std.specs.List.{list_all, position_or_len}
 use Rattle.cc_lexer.specs.declared.token.TokenKind.{TokenKind}
 use Rattle.cc_lexer.specs.declared.token.TokenKind.TheVariants.{Name, Int}

@@ -1,5 +1,5 @@
 -- What a text has next at a place, and the first bytes that settle what this may be.
-use Rattle.std.specs.Prelude.{◌≡◌, ℕ, ◌&&◌, ◌==◌, List, [], ◌∷◌, take, drop, length, count_by, Result, Ok, Err, if◌then◌else◌}
+use Rattle.std.specs.Prelude.{◌≡◌, ℕ, ◌&&◌, ◌==◌, [], ◌∷◌, take, count_by, Result, Ok, Err, if◌then◌else◌}
 use Rattle.cc_lexer.specs.declared.class.Class.{Class}
 use Rattle.cc_lexer.specs.declared.class.Class.TheVariants as class
 use Rattle.cc_lexer.specs.declared.piece.Piece.{Piece}

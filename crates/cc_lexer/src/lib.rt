@@ -11,6 +11,8 @@ mod next;
 mod number;
 mod piece;
 mod string;
+#[cfg(test)]
+mod tests;
 mod token;
 mod unescape;
 mod word;

@@ -1,6 +1,6 @@
 use Rattle.std.proofs.Common.{arith}
 use Rattle.std.proofs.lemmas.Result.{err_from_is_err_and}
-use Rattle.cc_lexer.proofs.Steps.{nothing_read, blank_fits, blank_read, token_fits, token_read, all_read, fault_read}
+use Rattle.cc_lexer.proofs.Steps.{nothing_read, blank_fits, blank_read, token_read, fault_read}
 use Rattle.cc_lexer.proofs.lexer.tokens_of.Goals as goal
 
 pub loop-tokens-init : goal.loop-tokens-init

@@ -9,4 +9,5 @@ loop-n-preserved c =
     let n = c.loop-n.length in
     record {
       within = omega (arith, rw take_rest at c.unit_length.ensures.within, length-drop n here);
-      inside = inside_more here n c.unit_length.result c.loop-n.invariant.inside (rw take_rest at c.unit_length.ensures.inside) }
+      inside = inside_more here n c.unit_length.result c.loop-n.invariant.inside (rw take_rest at c.unit_length.ensures.inside);
+    }

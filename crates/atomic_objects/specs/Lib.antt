@@ -1,0 +1,2 @@
+pub mod HeldObjects
+pub mod LockTable

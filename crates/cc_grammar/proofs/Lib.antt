@@ -1,0 +1,15 @@
+pub mod Sets
+pub mod Fronts
+pub mod Exact
+pub mod Levels
+pub mod Rules
+pub mod Same
+pub mod ExpressionLaws
+pub mod Chains
+pub mod DeclarationLaws
+pub mod PlaceLaws
+pub mod Follows
+pub mod SimpleLaws
+pub mod StatementLaws
+pub mod ItemLaws
+pub mod Top

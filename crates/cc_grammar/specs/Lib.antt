@@ -1,0 +1,16 @@
+pub mod Lexeme
+pub mod Kinds
+pub mod Symbol
+pub mod Nodes
+pub mod Expressions
+pub mod Declarations
+pub mod Statements
+pub mod Items
+pub mod Program
+pub mod Reading
+pub mod Endings
+pub mod ReadExpressions
+pub mod ReadDeclarations
+pub mod ReadStatements
+pub mod ReadItems
+pub mod Places

@@ -1,0 +1,18 @@
+//! The journal of a run as text: what each thread did, which requests were served, and how the run ended, one entry a line.
+#![tactic(auto)]
+
+mod entry;
+mod format;
+mod law;
+mod line;
+mod read;
+mod words;
+mod write;
+
+pub use entry::{Entry, FaultBy};
+pub use law::one_answer;
+pub use read::{JournalFault, read_journal};
+pub use write::{write_entry, write_header};
+
+#[cfg(test)]
+mod tests;

@@ -1,0 +1,4 @@
+pub mod ChangedLists
+pub mod SlotLaws
+pub mod ShownLaws
+pub mod CellLaws

@@ -1,0 +1,93 @@
+ghost use Rattle.std.specs.Prelude.{◌≡◌};
+ghost use Rattle.sync_cells.specs.Cells.{assigned, found, wrote};
+
+use global_ptr::Value;
+use std::alloc::AllocError;
+use std::mem::size_of;
+
+/// A place of an object, which holds a value.
+#[derive(Clone, Copy, Debug, PartialEq, Eq)]
+pub enum Cell {
+    /// A cell of a plain type, which may be assigned again and again.
+    Plain(Value),
+    /// A cell of a sync type that is not assigned yet. Who reads it waits.
+    Empty,
+    /// A cell of a sync type that was assigned, which it is once.
+    Full(Value),
+}
+
+// A million cells are to fit into 32 MiB.
+const _: () = prove!(size_of::<Cell>() <= 32);
+
+impl Cell {
+    /// What a read of the cell finds.
+    pub(crate) fn found(self) -> Found
+        ensures { result ≡ found (Some self) }
+    {
+        match self {
+            Cell::Plain(value) => Found::Value(value),
+            Cell::Empty => Found::Empty,
+            Cell::Full(value) => Found::Value(value),
+        }
+    }
+
+    /// Gives the cell a value, unless it was assigned before.
+    pub(crate) fn assign(&mut self, value: Value) -> Wrote
+        ensures answer { result ≡ wrote (Some self.old) }
+        ensures cell { self.new ≡ assigned value self.old }
+    {
+        *self = match self {
+            Cell::Plain(_) => Cell::Plain(value),
+            Cell::Empty => Cell::Full(value),
+            Cell::Full(_) => return Wrote::Twice,
+        };
+        Wrote::Done
+    }
+}
+
+/// What a read finds.
+#[derive(Clone, Copy, Debug, PartialEq, Eq)]
+pub enum Found {
+    /// The cell's value.
+    Value(Value),
+    /// The cell is not assigned yet.
+    Empty,
+    /// There is no such cell.
+    OutOfObject,
+}
+
+/// What became of a write.
+#[derive(Clone, Copy, Debug, PartialEq, Eq)]
+pub enum Wrote {
+    /// The cell has the value.
+    Done,
+    /// The cell was assigned before, and stays as it is.
+    Twice,
+    /// There is no such cell.
+    OutOfObject,
+}
+
+/// Why no object was made.
+#[derive(Clone, Copy, Debug, PartialEq, Eq)]
+pub enum StoreFault {
+    /// There would be more slots than a processor may make.
+    Full {
+        /// How many slots were made.
+        made: u32,
+        /// How many more were asked for.
+        asked: u32,
+    },
+    /// Want of memory.
+    Memory,
+}
+
+impl From<AllocError> for StoreFault {
+    ghost use Rattle.std.specs.Prelude.{◌≡◌};
+    ghost use Rattle.sync_cells.specs.declared.cell.StoreFault.TheVariants.{Memory};
+
+    ghost from_gives = { λ _ fault. fault ≡ Memory };
+
+    fn from(_: AllocError) -> StoreFault {
+        StoreFault::Memory
+    }
+}
