@@ -18,12 +18,12 @@ use Rattle.ccpp_top.specs.declared.source.Refusal.TheVariants.{Lex, NotYet, Memo
 use Rattle.ccpp_top.specs.Source.{IsRefusedFor, refusal_text}
 use Rattle.ccpp_top.specs.Status.{status_of}
 use Rattle.ccpp_top.specs.Words.{AskFor, IsWrongAt}
-use Rattle.ccpp_top.specs.Answers.{Runs, step_limit, Answers, refused, reported, Says, words_refused, run, no_file, read_fault, AskToRun, Cause}
+use Rattle.ccpp_top.specs.Answers.{RunsTo, step_limit, Answers, refused, reported, Says, words_refused, run, no_file, read_fault, AskToRun, HasRun, Cause}
 
 pub was_refused : (source : List ℕ) (why : Refusal) (text : List ℕ) → IsRefusedFor source why → text ≡ refusal_text why → (a : Answer) → a ≡ record { text = line text; status = SourceRefused } → Answers source a.text a.status
 was_refused source why text for is a e = rw e (subst (λ t. Answers source (line t) SourceRefused) (sym is) (refused why for))
 
-pub was_run : (source : List ℕ) (early : Early) (output : List ℕ) (end : Standing) → IsEarlySource source early → Runs (core_of early) [] step_limit output end → (a : Answer) → a ≡ record { text = report output end Determinate; status = status_of end } → Answers source a.text a.status
+pub was_run : (source : List ℕ) (early : Early) (output : List ℕ) (end : Standing) → IsEarlySource source early → RunsTo (core_of early) [] step_limit output end → (a : Answer) → a ≡ record { text = report output end Determinate; status = status_of end } → Answers source a.text a.status
 was_run source early output end is runs a e = rw e (reported is runs)
 
 module _ (words : List (List ℕ)) (held : Option Files) (before after : ℕ) where
@@ -41,11 +41,11 @@ module _ (words : List (List ℕ)) (held : Option Files) (before after : ℕ) wh
 
   -- ---- the causes of statuses
 
-  run_cause : (sink_before sink_after : ℕ) (source : List ℕ) → AskToRun words held source → (early : Early) → IsEarlySource source early → (output : List ℕ) (end : Standing) → Runs (core_of early) [] step_limit output end → Cause words held before after sink_before sink_after (status_of end)
-  run_cause sink_before sink_after source asked early is output (standing.Done v) runs = (source, asked, early, is, output, standing.Done v, runs, (v, refl))
-  run_cause sink_before sink_after source asked early is output (standing.Blocked k) runs = (source, asked, early, is, output, standing.Blocked k, runs, (k, refl))
-  run_cause sink_before sink_after source asked early is output (standing.Fault fault) runs = (source, asked, early, is, output, standing.Fault fault, runs, (fault, refl))
-  run_cause sink_before sink_after source asked early is output (standing.Limit n) runs = (source, asked, early, is, output, standing.Limit n, runs, (n, refl))
+  run_cause : (sink_before sink_after : ℕ) (end : Standing) → HasRun words held (status_of end) → Cause words held before after sink_before sink_after (status_of end)
+  run_cause sink_before sink_after (standing.Done v) has = has
+  run_cause sink_before sink_after (standing.Blocked k) has = has
+  run_cause sink_before sink_after (standing.Fault fault) has = has
+  run_cause sink_before sink_after (standing.Limit n) has = has
 
   refused_cause : (source : List ℕ) (why : Refusal) → IsRefusedFor source why → IsNoEarlySource source
   refused_cause source (Lex fault) for = for.1
@@ -54,7 +54,8 @@ module _ (words : List (List ℕ)) (held : Option Files) (before after : ℕ) wh
 
   answer_cause : (sink_before sink_after : ℕ) (source : List ℕ) → AskToRun words held source → (text : List ℕ) (end : Status) → Answers source text end → Cause words held before after sink_before sink_after end
   answer_cause sink_before sink_after source asked text end (refused why for) = (source, asked, refused_cause source why for)
-  answer_cause sink_before sink_after source asked text end (reported {early = early} {output = output} {end = end'} is runs) = run_cause sink_before sink_after source asked early is output end' runs
+  answer_cause sink_before sink_after source asked text end (reported {early = early} {output = output} {end = end'} is runs) =
+      run_cause sink_before sink_after end' (record { source = source; asked = asked; program = early; is_source = is; output = output; standing = end'; runs = runs; ends = refl })
 
   pub says_cause : (sink_before sink_after : ℕ) (text : List ℕ) (end : Status) → Says words held before after text end → Cause words held before after sink_before sink_after end
   says_cause sink_before sink_after text end (words_refused {place = place} wrong) = (place, wrong)

@@ -1,7 +1,6 @@
 -- The code of an early program comes to the outcome of the program.
-use Rattle.std.proofs.Common.{◌≡◌, ℕ, List, [], ◌∷◌, ◌++◌, reverse, append_assoc, append-nil, refl, sym, ap, ◌∙◌, subst}
-use Rattle.std.specs.Prelude.{ℤ, pos}
-use Rattle.cc_ops.specs.Values.{Result, Gives, Fails, on_gives}
+use Rattle.std.proofs.Common.{◌≡◌, ℕ, List, [], ◌∷◌, ◌++◌, reverse, append_assoc, append-nil, refl, sym, ap, ◌∙◌}
+use Rattle.std.specs.Prelude.{ℤ, pos, Option, Some, None}
 use Rattle.std.proofs.lemmas.List.{reverse-reverse}
 use Rattle.std.proofs.lemmas.Grind.{reverse_onto}
 use Rattle.global_ptr.specs.declared.ends.Standing.TheVariants.{Done}
@@ -22,8 +21,10 @@ use Rattle.ccpp_top.specs.declared.early.Sum.{Sum}
 use Rattle.ccpp_top.specs.declared.early.Summand.{Summand}
 use Rattle.ccpp_top.specs.declared.early.Product.{Product}
 use Rattle.ccpp_top.specs.Early as early_spec
-use Rattle.ccpp_top.specs.Outcome.{sign_operator, operate, combine, multiplied, product_value, totalled, sum_value, item_values, or_fault, done_by, outcome_from, outcome}
-use Rattle.ccpp_top.specs.Code.{Code, factors_code, product_code, summands_code, sum_code, item_code, items_code, parts_of, core_parts, kind_code, statement_code, statements_code, code_of, executed}
+use Rattle.ccpp_top.specs.Operator.{operator_of}
+use Rattle.ccpp_top.specs.Execution.{or_fault, core_parts, executed}
+use Rattle.ccpp_top.proofs.Outcomes.{combine, multiplied, product_value, totalled, sum_value, both, item_values, done_by, outcome_from, outcome}
+use Rattle.ccpp_top.specs.Code.{Code, factors_code, product_code, summands_code, sum_code, items_code, parts_of, kind_code, statement_code, statements_code, code_of}
 
 -- values put on a stack one after another
 abbrev onto : List ℤ → List ℤ → List ℤ
@@ -39,29 +40,29 @@ reverse-onto vs = ap reverse (onto_is vs [] ∙ append-nil (reverse vs)) ∙ rev
 
 module _ (line : ℕ) (out : List ℕ) where
   -- with a value on the stack, or at the fault
-  abbrev with_value : Result ℤ → Code → List ℤ → Outcome
+  abbrev with_value : Option ℤ → Code → List ℤ → Outcome
   with_value r code stack = or_fault out line r (λ v. executed code (v ∷ stack) out)
 
-  operator_executed : (o : Operator) (r q : Result ℤ) (second code : Code) (stack : List ℤ) → ((more : Code) (s : List ℤ) → executed (second ++ more) s out ≡ with_value q more s) → with_value r (second ++ Operate o line ∷ code) stack ≡ with_value (combine o r q) code stack
-  operator_executed o (Gives a) (Gives b) second code stack h = h (Operate o line ∷ code) (a ∷ stack)
-  operator_executed o (Gives a) (Fails kind) second code stack h = h (Operate o line ∷ code) (a ∷ stack)
-  operator_executed o (Fails kind) q second code stack h = refl
+  operator_executed : (o : Operator) (r q : Option ℤ) (second code : Code) (stack : List ℤ) → ((more : Code) (s : List ℤ) → executed (second ++ more) s out ≡ with_value q more s) → with_value r (second ++ Operate o line ∷ code) stack ≡ with_value (combine o r q) code stack
+  operator_executed o (Some a) (Some b) second code stack h = h (Operate o line ∷ code) (a ∷ stack)
+  operator_executed o (Some a) None second code stack h = h (Operate o line ∷ code) (a ∷ stack)
+  operator_executed o None q second code stack h = refl
 
-  factors_executed : (ns : List ℤ) (r : Result ℤ) (code : Code) (stack : List ℤ) → with_value r (factors_code line ns ++ code) stack ≡ with_value (multiplied r ns) code stack
+  factors_executed : (ns : List ℤ) (r : Option ℤ) (code : Code) (stack : List ℤ) → with_value r (factors_code line ns ++ code) stack ≡ with_value (multiplied r ns) code stack
   factors_executed [] r code stack = refl
   factors_executed (n ∷ ns) r code stack =
-      operator_executed Multiply r (Gives n) (Push n ∷ []) (factors_code line ns ++ code) stack (λ more s. refl)
-      ∙ factors_executed ns (combine Multiply r (Gives n)) code stack
+      operator_executed Multiply r (Some n) (Push n ∷ []) (factors_code line ns ++ code) stack (λ more s. refl)
+      ∙ factors_executed ns (combine Multiply r (Some n)) code stack
 
   product_executed : (p : Product) (code : Code) (stack : List ℤ) → executed (product_code line p ++ code) stack out ≡ with_value (product_value p) code stack
-  product_executed p code stack = factors_executed p.rest (Gives p.first) code stack
+  product_executed p code stack = factors_executed p.rest (Some p.first) code stack
 
-  summands_executed : (ss : List Summand) (r : Result ℤ) (code : Code) (stack : List ℤ) → with_value r (summands_code line ss ++ code) stack ≡ with_value (totalled r ss) code stack
+  summands_executed : (ss : List Summand) (r : Option ℤ) (code : Code) (stack : List ℤ) → with_value r (summands_code line ss ++ code) stack ≡ with_value (totalled r ss) code stack
   summands_executed [] r code stack = refl
   summands_executed (s ∷ ss) r code stack =
-      ap (λ c. with_value r c stack) (append_assoc (product_code line s.product) (Operate (sign_operator s.sign) line ∷ summands_code line ss) code)
-      ∙ (operator_executed (sign_operator s.sign) r (product_value s.product) (product_code line s.product) (summands_code line ss ++ code) stack (product_executed s.product)
-      ∙ summands_executed ss (combine (sign_operator s.sign) r (product_value s.product)) code stack)
+      ap (λ c. with_value r c stack) (append_assoc (product_code line s.product) (Operate (operator_of s.sign) line ∷ summands_code line ss) code)
+      ∙ (operator_executed (operator_of s.sign) r (product_value s.product) (product_code line s.product) (summands_code line ss ++ code) stack (product_executed s.product)
+      ∙ summands_executed ss (combine (operator_of s.sign) r (product_value s.product)) code stack)
 
   sum_executed : (s : Sum) (code : Code) (stack : List ℤ) → executed (sum_code line s ++ code) stack out ≡ with_value (sum_value s) code stack
   sum_executed s code stack =
@@ -69,10 +70,10 @@ module _ (line : ℕ) (out : List ℕ) where
       ∙ (product_executed s.first (summands_code line s.rest ++ code) stack
       ∙ summands_executed s.rest (product_value s.first) code stack)
 
-  item_executed : (r : Result ℤ) (q : Result (List ℤ)) (rest : ℤ → Outcome) (code : Code) (stack : List ℤ) → ((v : ℤ) → rest v ≡ or_fault out line q (λ vs. executed code (onto vs (v ∷ stack)) out)) → or_fault out line r rest ≡ or_fault out line (on_gives r (λ v. on_gives q (λ vs. Gives (v ∷ vs)))) (λ vs. executed code (onto vs stack) out)
-  item_executed (Gives v) (Gives vs) rest code stack h = h v
-  item_executed (Gives v) (Fails kind) rest code stack h = h v
-  item_executed (Fails kind) q rest code stack h = refl
+  item_executed : (r : Option ℤ) (q : Option (List ℤ)) (rest : ℤ → Outcome) (code : Code) (stack : List ℤ) → ((v : ℤ) → rest v ≡ or_fault out line q (λ vs. executed code (onto vs (v ∷ stack)) out)) → or_fault out line r rest ≡ or_fault out line (both r q) (λ vs. executed code (onto vs stack) out)
+  item_executed (Some v) (Some vs) rest code stack h = h v
+  item_executed (Some v) None rest code stack h = h v
+  item_executed None q rest code stack h = refl
 
   items_executed : (is : List Item) (code : Code) (stack : List ℤ) → executed (items_code line is ++ code) stack out ≡ or_fault out line (item_values is) (λ vs. executed code (onto vs stack) out)
   items_executed [] code stack = refl
@@ -95,9 +96,9 @@ print_executed line is out code =
     ∙ (items_executed line out is (Print (parts_of is) ∷ code) []
     ∙ go (item_values is))
   where
-    go : (r : Result (List ℤ)) → or_fault out line r (λ vs. executed code [] (out ++ printed (core_parts (parts_of is)) (ints (reverse (onto vs []))))) ≡ or_fault out line r (λ vs. executed code [] (out ++ printed (early_spec.parts_of is) (ints vs)))
-    go (Gives vs) = rw (same_parts is, reverse-onto vs) refl
-    go (Fails kind) = refl
+    go : (r : Option (List ℤ)) → or_fault out line r (λ vs. executed code [] (out ++ printed (core_parts (parts_of is)) (ints (reverse (onto vs []))))) ≡ or_fault out line r (λ vs. executed code [] (out ++ printed (early_spec.parts_of is) (ints vs)))
+    go (Some vs) = rw (same_parts is, reverse-onto vs) refl
+    go None = refl
 
 return_executed : (line : ℕ) (s : Sum) (out : List ℕ) (code : Code) → executed ((sum_code line s ++ Return ∷ []) ++ code) [] out ≡ or_fault out line (sum_value s) (λ v. record { output = out; standing = Done v })
 return_executed line s out code = ap (λ c. executed c [] out) (append_assoc (sum_code line s) (Return ∷ []) code) ∙ sum_executed line out s (Return ∷ code) []
@@ -107,9 +108,9 @@ kind_executed line (statement.Print first rest) out code = print_executed line (
 kind_executed line (statement.Return s) out code = return_executed line s out code
 
 -- the same statement, before others that come to the same
-same_after : {A : Type 0} (out : List ℕ) (line : ℕ) (r : Result A) (f g : A → Outcome) → ((a : A) → f a ≡ g a) → or_fault out line r f ≡ or_fault out line r g
-same_after out line (Gives a) f g h = h a
-same_after out line (Fails kind) f g h = refl
+same_after : {A : Type 0} (out : List ℕ) (line : ℕ) (r : Option A) (f g : A → Outcome) → ((a : A) → f a ≡ g a) → or_fault out line r f ≡ or_fault out line r g
+same_after out line (Some a) f g h = h a
+same_after out line None f g h = refl
 
 done_same : (out : List ℕ) (line : ℕ) (kind : StatementKind) (f g : List ℕ → Outcome) → ((out' : List ℕ) → f out' ≡ g out') → done_by out line kind f ≡ done_by out line kind g
 done_same out line (statement.Print first rest) f g h = same_after out line (item_values (first ∷ rest)) _ _ (λ vs. h (out ++ printed (early_spec.parts_of (first ∷ rest)) (ints vs)))

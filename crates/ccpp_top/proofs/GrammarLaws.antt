@@ -1,7 +1,6 @@
 -- The readers read exactly what the grammar writes.
-use Rattle.std.proofs.Common.{◌≡◌, ℕ, zero, suc, ◌+◌, ◌≤◌, Bool, true, false, List, [], ◌∷◌, ◌++◌, length, length-append, refl, ap, ◌∙◌, sym, subst, append_assoc, append-nil, arith}
+use Rattle.std.proofs.Common.{◌≡◌, ℕ, zero, suc, ◌+◌, ◌≤◌, Bool, true, false, List, [], ◌∷◌, ◌++◌, length, length-append, refl, ap, ◌∙◌, sym, subst, append_assoc, arith}
 use Rattle.std.specs.Prelude.{ℤ, ◌==◌, if◌then◌else◌}
-use Rattle.std.proofs.lemmas.Bool.{cases_Bool}
 use Rattle.ccpp_top.specs.declared.piece.Fixed.{Fixed}
 use Rattle.ccpp_top.specs.declared.piece.Fixed.TheVariants.{Main, OpenParen, CloseParen, OpenBrace, CloseBrace, Semicolon, LessLess, Star, Plus, Minus, Endl}
 use Rattle.ccpp_top.specs.declared.piece.Opener.{Opener}
@@ -14,9 +13,7 @@ use Rattle.ccpp_top.specs.declared.early.Item.{Item}
 use Rattle.ccpp_top.specs.declared.early.Item.TheVariants as i
 use Rattle.ccpp_top.specs.declared.early.Sign.{Sign}
 use Rattle.ccpp_top.specs.declared.early.Sign.TheVariants as g
-use Rattle.ccpp_top.specs.declared.early.Sum.{Sum}
 use Rattle.ccpp_top.specs.declared.early.Summand.{Summand}
-use Rattle.ccpp_top.specs.declared.early.Product.{Product}
 use Rattle.ccpp_top.specs.Grammar.{Piece, Opens, Number, Quoted, Is, Other, Pieces, all, sign_of}
 use Rattle.ccpp_top.specs.Grammar as grammar
 use Rattle.ccpp_top.specs.Reading.{◌>>=◌, Reading, Read, Unread, Reader, and_then, pure, many_from, number_of, begins, begins_sign, opener_number}
@@ -322,15 +319,14 @@ print_sound a b x h =
     let s = split r.next_out (λ y. r.many (begins LessLess) r.next_out >>= (λ ys. pure (k.Print y ys))) a b x h in
     let t = split (r.many (begins LessLess) r.next_out) (λ ys. pure (k.Print s.value ys)) s.rest b x s.second in
     let e : k.Print s.value t.value ≡ x = cc t.second in
-    let d : t.rest ≡ b = cc t.second in
-    (
+    let d : t.rest ≡ b = cc t.second in (
       s.value,
       t.value,
       sym e,
       next_out_sound a s.rest s.value s.first
-        ∙ (ap (λ c. grammar.next_out s.value ++ c) (many_sound (begins LessLess) r.next_out grammar.next_out next_out_sound s.rest t.rest t.value t.first)
-        ∙ (sym (append_assoc (grammar.next_out s.value) (all grammar.next_out t.value) t.rest)
-        ∙ ap (λ c. all grammar.next_out (s.value ∷ t.value) ++ c) d)),
+          ∙ (ap (λ c. grammar.next_out s.value ++ c) (many_sound (begins LessLess) r.next_out grammar.next_out next_out_sound s.rest t.rest t.value t.first)
+          ∙ (sym (append_assoc (grammar.next_out s.value) (all grammar.next_out t.value) t.rest)
+          ∙ ap (λ c. all grammar.next_out (s.value ∷ t.value) ++ c) d)),
     )
 
 print_complete : (first : Item) (rest : List Item) (b : Pieces) → AfterPrint b → r.print (all grammar.next_out (first ∷ rest) ++ b) ≡ Read (k.Print first rest) b

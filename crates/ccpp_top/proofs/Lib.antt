@@ -2,6 +2,7 @@ mod AnswerLaws
 mod Codes
 mod GrammarLaws
 mod Maps
+mod Outcomes
 pub mod ReadingLaws
 mod Runs
 mod SourceLaws

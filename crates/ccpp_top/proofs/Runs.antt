@@ -1,5 +1,5 @@
 -- Runs in which the main thread alone makes steps.
-use Rattle.std.proofs.Common.{◌≡◌, ℕ, zero, suc, ◌+◌, ◌<◌, ◌≤◌, List, [], ◌∷◌, ◌++◌, length, append-nil, Option, Some, None, refl, sym, ap, ◌∙◌, subst, ⊎_elim, inl, inr, arith}
+use Rattle.std.proofs.Common.{◌≡◌, ℕ, suc, ◌<◌, ◌≤◌, List, [], ◌∷◌, ◌++◌, append-nil, Some, None, refl, ap, ◌∙◌, ⊎_elim, arith}
 use Rattle.std.specs.Prelude.{ℤ, replicate}
 use Rattle.std.specs.FinMap as fin
 use Rattle.global_ptr.specs.declared.ends.FaultKind.{FaultKind}
@@ -12,10 +12,10 @@ use Rattle.cc_core.specs.Names.{Name, name_cmp, same_name, Map, Value, added}
 use Rattle.cc_core.specs.Core.{Term, PrintPart, Program, shapes}
 use Rattle.cc_core.specs.Asks.{Ask, Answer, Computes, Prints, Leaves}
 use Rattle.cc_core.specs.Next.{Next, Ready, Asks, After, just, next}
-use Rattle.cc_core.specs.Config.{Config, Thread, State, Live, Ended}
-use Rattle.cc_core.specs.Needs.{Verdict, Go, Hold, Bad, needs, check_all, one, of_result, and_also}
+use Rattle.cc_core.specs.Config.{Config, Thread, State, Ended}
+use Rattle.cc_core.specs.Needs.{Go, needs, check_all, one, of_result, and_also}
 use Rattle.cc_core.specs.Effects.{printed}
-use Rattle.cc_core.specs.Steps.{Outcome, Waits, Faults, Moves, settled, settle, act_state, act, decide, apply, change, step, Run, HasFault, IsAtRest, threads_left, live, Stands}
+use Rattle.cc_core.specs.Steps.{Faults, Moves, settled, settle, act_state, act, decide, step, Run, HasFault, IsAtRest, threads_left, live, Stands}
 use Rattle.ccpp_top.proofs.Maps.{get_same, get_either, insert_twice, values_one}
 
 -- main, with this left to do, inside these functions

@@ -1,10 +1,11 @@
 -- What the reader of a text's tokens says of the text.
-use Rattle.std.proofs.Common.{◌≡◌, ℕ, suc, ◌+◌, ◌<◌, ◌≤◌, List, [], ◌∷◌, ◌++◌, length, length-append, append-nil, sym, ap, ◌∙◌, subst, arith}
-use Rattle.std.specs.Prelude.{ℤ, map}
+use Rattle.std.proofs.Common.{◌≡◌, ℕ, suc, ◌+◌, ◌<◌, ◌≤◌, List, [], ◌∷◌, length, length-append, append-nil, sym, ap, ◌∙◌, arith}
+use Rattle.std.specs.Prelude.{ℤ}
 use Rattle.std.proofs.lemmas.List.{length-map}
 use Rattle.cc_lexer.specs.declared.token.Token.{Token}
 use Rattle.cc_lexer.specs.Cut.{Cut}
 use Rattle.cc_lexer.specs.Lexemes.{lexemes}
+use Rattle.cc_lexer.proofs.Spans.{cut_count}
 use Rattle.ccpp_top.specs.declared.piece.Fixed.TheVariants.{Semicolon, CloseBrace}
 use Rattle.ccpp_top.specs.declared.early.Early.{Early}
 use Rattle.ccpp_top.specs.declared.early.Statement.{Statement}
@@ -15,8 +16,8 @@ use Rattle.ccpp_top.specs.declared.early.Item.TheVariants as i
 use Rattle.ccpp_top.specs.declared.early.Sum.{Sum}
 use Rattle.ccpp_top.specs.declared.early.Summand.{Summand}
 use Rattle.ccpp_top.specs.declared.early.Product.{Product}
-use Rattle.ccpp_top.specs.Grammar.{Pieces, Is, all, factor, product, summand, sum, out, next_out, line_of_kind, statement, program, piece_of, pieces, IsEarlySource, IsNoEarlySource}
-use Rattle.ccpp_top.specs.Outcome.{product_steps, summands_steps, sum_steps, items_steps, kind_steps, statements_steps, most_steps}
+use Rattle.ccpp_top.specs.Grammar.{Pieces, Is, all, factor, product, summand, sum, next_out, line_of_kind, statement, program, piece_of, pieces, IsEarlySource, IsNoEarlySource}
+use Rattle.ccpp_top.proofs.Outcomes.{product_steps, summands_steps, sum_steps, items_steps, kind_steps, statements_steps, most_steps}
 use Rattle.ccpp_top.specs.Answers.{step_limit}
 use Rattle.ccpp_top.specs.Reading.{Reading, Read, Unread}
 use Rattle.ccpp_top.specs.Reading as r
@@ -102,10 +103,11 @@ module _ (text : List ℕ) (tokens : List Token) (cut : Cut text tokens) where
   pub is_none : ((others : List Token) → Cut text others → tokens ≡ others) → ((early : Early) → pieces text tokens ≡ program early → ⊥) → IsNoEarlySource text
   is_none one none early is = none early (ap (pieces text) (one is.tokens is.cut) ∙ is.written)
 
-  pub few_steps : length tokens ≤ length text → (early : Early) → pieces text tokens ≡ program early → most_steps early < step_limit
-  few_steps count early is =
-      let h = program_tokens early in
-      let n = ap length is in
-      let m : length (pieces text tokens) ≡ length tokens = length-map (lexemes text tokens) piece_of ∙ length-map tokens _ in
-      let b = cut.not_too_long in
-      omega arith
+pub few_steps : (text : List ℕ) (early : Early) → IsEarlySource text early → most_steps early < step_limit
+few_steps text early is =
+    let h = program_tokens early in
+    let n = ap length is.written in
+    let m : length (pieces text is.tokens) ≡ length is.tokens = length-map (lexemes text is.tokens) piece_of ∙ length-map is.tokens _ in
+    let c = cut_count text is.tokens is.cut in
+    let b = is.cut.not_too_long in
+    omega arith

@@ -1,16 +1,16 @@
 -- What main does at the statements of an early program: a run of the source comes to the outcome of the program.
-use Rattle.std.proofs.Common.{◌≡◌, ℕ, zero, suc, ◌+◌, ◌<◌, ◌≤◌, List, [], ◌∷◌, ◌++◌, length, refl, sym, ap, ◌∙◌, subst, arith}
+use Rattle.std.proofs.Common.{◌≡◌, ℕ, suc, ◌+◌, ◌<◌, List, [], ◌∷◌, ◌++◌, length, refl, sym, subst, arith}
 use Rattle.std.proofs.lemmas.List.{length-replicate}
-use Rattle.std.specs.Prelude.{ℤ, pos}
-use Rattle.global_ptr.specs.declared.ends.FaultKind.{FaultKind}
+use Rattle.std.specs.Prelude.{ℤ, pos, Option, Some, None}
+use Rattle.global_ptr.specs.declared.ends.FaultKind.TheVariants.{Overflow}
 use Rattle.global_ptr.specs.declared.ends.Standing.{Standing}
 use Rattle.global_ptr.specs.declared.ends.Standing.TheVariants.{Done, Fault}
-use Rattle.cc_ops.specs.Values.{Void, Int, IntC, Result, Gives, Fails, on_gives}
+use Rattle.cc_ops.specs.Values.{Void, Int}
 use Rattle.cc_core.specs.Names.{Value}
-use Rattle.cc_core.specs.Core.{Env, Term, Val, Body, Terms, NoTerms, MoreTerms, Stmt, Empty, AtLine, Print, Return, Left, Stmts, NoStmts, MoreStmts, Program}
-use Rattle.cc_core.specs.Asks.{Ask, Answer, Prints, Leaves}
+use Rattle.cc_core.specs.Core.{Env, Term, Val, Body, Terms, MoreTerms, Stmt, Empty, AtLine, Print, Return, Left, Stmts, MoreStmts, Program}
+use Rattle.cc_core.specs.Asks.{Prints, Leaves}
 use Rattle.cc_core.specs.Effects.{printed}
-use Rattle.cc_core.specs.Next.{Next, Ready, Asks, After, on_ready, next_term, next_terms, next_stmt, next_stmts, next, just, does, Ending, Falls, Returns, body_ends, and_then}
+use Rattle.cc_core.specs.Next.{Next, Ready, Asks, on_ready, next_terms, next_stmt, next_stmts, just, does, Ending, body_ends, and_then}
 use Rattle.cc_core.specs.Steps.{ints, start}
 use Rattle.ccpp_top.specs.declared.outcome.Outcome.{Outcome}
 use Rattle.ccpp_top.specs.declared.early.Early.{Early}
@@ -20,28 +20,32 @@ use Rattle.ccpp_top.specs.declared.early.StatementKind.TheVariants as statement
 use Rattle.ccpp_top.specs.declared.early.Item.{Item}
 use Rattle.ccpp_top.specs.declared.early.Item.TheVariants as item
 use Rattle.ccpp_top.specs.declared.early.Sum.{Sum}
-use Rattle.ccpp_top.specs.Answers.{Runs, step_limit}
+use Rattle.ccpp_top.specs.Answers.{RunsTo, step_limit}
 use Rattle.ccpp_top.specs.Early.{sum_term, parts_of, printed_terms, kind_stmt, stmts_of, core_of}
-use Rattle.ccpp_top.specs.Outcome.{sum_value, item_values, fault_at, or_fault, done_by, outcome_from, outcome, sum_steps, items_steps, kind_steps, statements_steps, most_steps}
+use Rattle.ccpp_top.specs.Execution.{or_fault}
+use Rattle.ccpp_top.proofs.Outcomes.{sum_value, both, item_values, done_by, outcome_from, outcome, sum_steps, items_steps, kind_steps, statements_steps, most_steps}
 use Rattle.ccpp_top.proofs.Runs.{ComesTo, Ends, mains, stands, longer, ends_prints, ends_leaves}
 use Rattle.ccpp_top.proofs.Sums.{Context, inside, term, Evaluates, sum_evaluates}
+
+abbrev overflow : ℕ → Standing
+overflow line = Fault (record { kind = Overflow; line = line })
 
 module _ (p : Program) (line : ℕ) where
   abbrev terms : Terms → Next (List Value) Terms
   terms = next_terms p line Void []
 
   -- as Evaluates says of one term
-  abbrev EvaluateAll : Terms → Result (List ℤ) → (b : ℕ) → Type 0
-  EvaluateAll ts (Gives vs) b = (K : Terms → Term) (rest : List Value → Next Value Term) → Context p terms K rest → (out : List ℕ) (c : ℕ) (output : List ℕ) (standing : Standing) → Ends p out (rest (ints vs)) c output standing → Ends p out (on_ready (terms ts) K rest) (b + c) output standing
-  EvaluateAll ts (Fails kind) b = (K : Terms → Term) (rest : List Value → Next Value Term) → Context p terms K rest → (out : List ℕ) → Ends p out (on_ready (terms ts) K rest) b out (fault_at line kind)
+  abbrev EvaluateAll : Terms → Option (List ℤ) → (b : ℕ) → Type 0
+  EvaluateAll ts (Some vs) b = (K : Terms → Term) (rest : List Value → Next Value Term) → Context p terms K rest → (out : List ℕ) (c : ℕ) (output : List ℕ) (standing : Standing) → Ends p out (rest (ints vs)) c output standing → Ends p out (on_ready (terms ts) K rest) (b + c) output standing
+  EvaluateAll ts None b = (K : Terms → Term) (rest : List Value → Next Value Term) → Context p terms K rest → (out : List ℕ) → Ends p out (on_ready (terms ts) K rest) b out (overflow line)
 
-  one_more_term : (t : Term) (ts : Terms) (r : Result ℤ) (q : Result (List ℤ)) (b c : ℕ) → Evaluates p line t r b → EvaluateAll ts q c → EvaluateAll (MoreTerms t ts) (on_gives r (λ v. on_gives q (λ vs. Gives (v ∷ vs)))) (b + c)
-  one_more_term t ts (Fails kind) q b c f g = λ K rest x out.
+  one_more_term : (t : Term) (ts : Terms) (r : Option ℤ) (q : Option (List ℤ)) (b c : ℕ) → Evaluates p line t r b → EvaluateAll ts q c → EvaluateAll (MoreTerms t ts) (both r q) (b + c)
+  one_more_term t ts None q b c f g = λ K rest x out.
       longer p out _ b (b + c) _ _ (omega arith) (inside p (term p line) terms _ _ K rest t out b _ _ (λ a. refl) x (λ x'. f _ _ x' out))
-  one_more_term t ts (Gives v) (Fails kind) b c f g = λ K rest x out.
+  one_more_term t ts (Some v) None b c f g = λ K rest x out.
       inside p (term p line) terms _ _ K rest t out (b + c) _ _ (λ a. refl) x (λ x'. f _ _ x' out c _ _
       (inside p terms terms _ _ K rest ts out c _ _ (λ a. refl) x (λ x''. g _ _ x'' out)))
-  one_more_term t ts (Gives v) (Gives vs) b c f g = λ K rest x out d output standing h.
+  one_more_term t ts (Some v) (Some vs) b c f g = λ K rest x out d output standing h.
       longer p out _ (b + (c + d)) (b + c + d) _ _ (omega arith)
       (inside p (term p line) terms _ _ K rest t out (b + (c + d)) _ _ (λ a. refl) x (λ x'. f _ _ x' out (c + d) _ _
       (inside p terms terms _ _ K rest ts out (c + d) _ _ (λ a. refl) x (λ x''. g _ _ x'' out d _ _ h))))
@@ -77,12 +81,12 @@ module _ (early : Early) where
   statement_context : (line : ℕ) (ss : Stmts) → Context core (stmt line) (before line ss) (behind ss)
   statement_context line ss = record { same = λ x. at_statement line ss (stmt line x) }
 
-  print_goes : (line : ℕ) (is : List Item) (r : Result (List ℤ)) → EvaluateAll core line (printed_terms is) r (items_steps is) → (ss : Stmts) (out : List ℕ) (c : ℕ) (go : List ℕ → Outcome) → ((out' : List ℕ) → Ends core out' (left_at ss) c (go out').output (go out').standing) → let end = or_fault out line r (λ vs. go (out ++ printed (parts_of is) (ints vs))) in Ends core out (on_ready (stmt line ([], Print (parts_of is) (printed_terms is))) (before line ss) (behind ss)) (suc (items_steps is) + c) end.output end.standing
-  print_goes line is (Fails kind) items ss out c go h =
+  print_goes : (line : ℕ) (is : List Item) (r : Option (List ℤ)) → EvaluateAll core line (printed_terms is) r (items_steps is) → (ss : Stmts) (out : List ℕ) (c : ℕ) (go : List ℕ → Outcome) → ((out' : List ℕ) → Ends core out' (left_at ss) c (go out').output (go out').standing) → let end = or_fault out line r (λ vs. go (out ++ printed (parts_of is) (ints vs))) in Ends core out (on_ready (stmt line ([], Print (parts_of is) (printed_terms is))) (before line ss) (behind ss)) (suc (items_steps is) + c) end.output end.standing
+  print_goes line is None items ss out c go h =
       longer core out _ (items_steps is) (suc (items_steps is) + c) _ _ (omega arith)
-      (inside core (terms core line) (stmt line) (λ ts. ([], Print (parts_of is) ts)) (λ vs. does line [] (Prints (parts_of is) vs)) (before line ss) (behind ss) (printed_terms is) out (items_steps is) out (fault_at line kind) (λ ts. refl) (statement_context line ss)
+      (inside core (terms core line) (stmt line) (λ ts. ([], Print (parts_of is) ts)) (λ vs. does line [] (Prints (parts_of is) vs)) (before line ss) (behind ss) (printed_terms is) out (items_steps is) out (overflow line) (λ ts. refl) (statement_context line ss)
       (λ x. items _ _ x out))
-  print_goes line is (Gives vs) items ss out c go h =
+  print_goes line is (Some vs) items ss out c go h =
       let out' = out ++ printed (parts_of is) (ints vs) in
       let end = go out' in
       longer core out _ (items_steps is + suc c) (suc (items_steps is) + c) _ _ (omega arith)
@@ -91,12 +95,12 @@ module _ (early : Early) where
       (ends_prints core out line (parts_of is) (ints vs) (λ y. before line ss ([], Empty)) c end.output end.standing
       (subst (λ n. Ends core out' n c end.output end.standing) (sym ((statement_context line ss).same ([], Empty))) (h out')))))
 
-  return_goes : (line : ℕ) (e : Sum) (r : Result ℤ) → Evaluates core line (sum_term e) r (sum_steps e) → (ss : Stmts) (out : List ℕ) → let end = or_fault out line r (λ v. record { output = out; standing = Done v }) in Ends core out (on_ready (stmt line ([], Return (sum_term e))) (before line ss) (behind ss)) (suc (sum_steps e)) end.output end.standing
-  return_goes line e (Fails kind) sum ss out =
+  return_goes : (line : ℕ) (e : Sum) (r : Option ℤ) → Evaluates core line (sum_term e) r (sum_steps e) → (ss : Stmts) (out : List ℕ) → let end = or_fault out line r (λ v. record { output = out; standing = Done v }) in Ends core out (on_ready (stmt line ([], Return (sum_term e))) (before line ss) (behind ss)) (suc (sum_steps e)) end.output end.standing
+  return_goes line e None sum ss out =
       longer core out _ (sum_steps e) (suc (sum_steps e)) _ _ (omega arith)
-      (inside core (term core line) (stmt line) (λ t. ([], Return t)) (λ v. Asks line Leaves (λ x. just ([], Left v))) (before line ss) (behind ss) (sum_term e) out (sum_steps e) out (fault_at line kind) (λ t. refl) (statement_context line ss)
+      (inside core (term core line) (stmt line) (λ t. ([], Return t)) (λ v. Asks line Leaves (λ x. just ([], Left v))) (before line ss) (behind ss) (sum_term e) out (sum_steps e) out (overflow line) (λ t. refl) (statement_context line ss)
       (λ x. sum _ _ x out))
-  return_goes line e (Gives v) sum ss out =
+  return_goes line e (Some v) sum ss out =
       longer core out _ (sum_steps e + 1) (suc (sum_steps e)) _ _ (omega arith)
       (inside core (term core line) (stmt line) (λ t. ([], Return t)) (λ v'. Asks line Leaves (λ x. just ([], Left v'))) (before line ss) (behind ss) (sum_term e) out (sum_steps e + 1) out (Done v) (λ t. refl) (statement_context line ss)
       (λ x. sum _ _ x out 1 _ _
@@ -117,7 +121,7 @@ module _ (early : Early) where
   comes_to : ComesTo core (start core []) (most_steps early) (outcome early).output (outcome early).standing
   comes_to = statements_go early.statements [] (Body 0 Void [] (stmts_of early.statements)) refl
 
-  pub runs : most_steps early < step_limit → Runs core [] step_limit (outcome early).output (outcome early).standing
+  pub runs : most_steps early < step_limit → RunsTo core [] step_limit (outcome early).output (outcome early).standing
   runs few =
       let c = comes_to in
       let n : length (mains core c.steps) ≡ c.steps = length-replicate c.steps [] in

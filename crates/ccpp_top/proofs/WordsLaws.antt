@@ -1,5 +1,5 @@
 -- Which words ask for a command, and where others are wrong.
-use Rattle.std.proofs.Common.{◌≡◌, ℕ, List, [], ◌∷◌, ◌++◌, length, Bool, true, false, not, refl, sym, subst, ap, ◌∙◌, inl, inr, arith}
+use Rattle.std.proofs.Common.{◌≡◌, ℕ, List, [], ◌∷◌, length, refl, sym, subst, inl, inr, arith}
 use Rattle.std.specs.Prelude.{codes}
 use Rattle.ccpp_top.specs.declared.command.Command.{Command}
 use Rattle.ccpp_top.specs.declared.command.Command.TheVariants.{Run}

@@ -1,11 +1,5 @@
--- The stack code of an early program, its post-order, and what the machine does with it.
-use Rattle.std.specs.Prelude.{ℕ, List, [], ◌∷◌, ◌++◌, reverse, ℤ, pos}
-use Rattle.global_ptr.specs.declared.ends.Standing.TheVariants.{Done}
-use Rattle.cc_core.specs.Core as core
-use Rattle.cc_core.specs.Effects.{printed}
-use Rattle.cc_core.specs.Steps.{ints}
-use Rattle.ccpp_top.specs.declared.outcome.Outcome.{Outcome}
-use Rattle.ccpp_top.specs.declared.operator.Operator.{Operator}
+-- The stack code of an early program: its post-order.
+use Rattle.std.specs.Prelude.{ℕ, List, [], ◌∷◌, ◌++◌, ℤ, pos}
 use Rattle.ccpp_top.specs.declared.operator.Operator.TheVariants.{Multiply}
 use Rattle.ccpp_top.specs.declared.code.Instr.{Instr}
 use Rattle.ccpp_top.specs.declared.code.Instr.TheVariants.{Push, Operate, Print, Return}
@@ -20,7 +14,7 @@ use Rattle.ccpp_top.specs.declared.early.Item.TheVariants as item
 use Rattle.ccpp_top.specs.declared.early.Sum.{Sum}
 use Rattle.ccpp_top.specs.declared.early.Summand.{Summand}
 use Rattle.ccpp_top.specs.declared.early.Product.{Product}
-use Rattle.ccpp_top.specs.Outcome.{sign_operator, operate, or_fault}
+use Rattle.ccpp_top.specs.Operator.{operator_of}
 
 abbrev pub Code : Type 0
 Code = List Instr
@@ -34,7 +28,7 @@ product_code line p = Push p.first ∷ factors_code line p.rest
 
 abbrev pub summands_code : ℕ → List Summand → Code
 summands_code line [] = []
-summands_code line (s ∷ ss) = product_code line s.product ++ Operate (sign_operator s.sign) line ∷ summands_code line ss
+summands_code line (s ∷ ss) = product_code line s.product ++ Operate (operator_of s.sign) line ∷ summands_code line ss
 
 abbrev pub sum_code : ℕ → Sum → Code
 sum_code line s = product_code line s.first ++ summands_code line s.rest
@@ -70,31 +64,3 @@ statements_code (s ∷ ss) = statement_code s ++ statements_code ss
 
 abbrev pub code_of : Early → Code
 code_of early = statements_code early.statements ++ Push (pos 0) ∷ Return ∷ []
-
--- ---- the machine
-
-abbrev pub core_part : PrintPart → core.PrintPart
-core_part part.Int = core.Number
-core_part (part.Str bytes) = core.Text bytes
-core_part part.Endl = core.Endl
-
-abbrev pub core_parts : List PrintPart → List core.PrintPart
-core_parts [] = []
-core_parts (x ∷ xs) = core_part x ∷ core_parts xs
-
--- the number on top of the stack, 0 where there is none, and the numbers below it
-abbrev pub top : List ℤ → ℤ
-top [] = pos 0
-top (n ∷ ns) = n
-
-abbrev pub below : List ℤ → List ℤ
-below [] = []
-below (n ∷ ns) = ns
-
--- what the machine comes to from here on, with this stack, its top first, and after this output
-abbrev pub executed : Code → List ℤ → List ℕ → Outcome
-executed [] stack out = record { output = out; standing = Done (pos 0) }
-executed (Push n ∷ code) stack out = executed code (n ∷ stack) out
-executed (Operate operator line ∷ code) stack out = or_fault out line (operate operator (top (below stack)) (top stack)) (λ n. executed code (n ∷ below (below stack)) out)
-executed (Print parts ∷ code) stack out = executed code [] (out ++ printed (core_parts parts) (ints (reverse stack)))
-executed (Return ∷ code) stack out = record { output = out; standing = Done (top stack) }

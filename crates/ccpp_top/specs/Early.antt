@@ -1,9 +1,9 @@
 -- A program of the early form as a program of the core language.
-use Rattle.std.specs.Prelude.{ℕ, List, [], ◌∷◌, ℤ, pos, false, codes}
+use Rattle.std.specs.Prelude.{List, [], ◌∷◌, ℤ, pos, false, codes}
 use Rattle.cc_ops.specs.Values.{IntC}
 use Rattle.cc_ops.specs.declared.operator.Op.{Op}
 use Rattle.cc_ops.specs.declared.operator.Op.TheVariants.{Add, Sub, Mul}
-use Rattle.cc_core.specs.Core.{PrintPart, Number, Text, Endl, Term, Push, Binary, Terms, NoTerms, MoreTerms, Stmt, AtLine, Print, Return, Stmts, NoStmts, MoreStmts, Function, Program}
+use Rattle.cc_core.specs.Core.{PrintPart, Number, Text, Endl, Term, Push, Binary, Terms, NoTerms, MoreTerms, Stmt, AtLine, Print, Return, Stmts, NoStmts, MoreStmts, Program}
 use Rattle.ccpp_top.specs.declared.early.Early.{Early}
 use Rattle.ccpp_top.specs.declared.early.Statement.{Statement}
 use Rattle.ccpp_top.specs.declared.early.StatementKind.{StatementKind}

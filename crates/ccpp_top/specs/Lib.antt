@@ -1,9 +1,10 @@
 pub mod Answers
 pub mod Code
 pub mod Early
+pub mod Execution
 pub mod Grammar
 pub mod Machine
-pub mod Outcome
+pub mod Operator
 pub mod Reading
 pub mod Source
 pub mod Status

@@ -16,8 +16,8 @@ use Rattle.ccpp_top.specs.declared.early.Sum.{Sum}
 use Rattle.ccpp_top.specs.declared.early.Summand.{Summand}
 use Rattle.ccpp_top.specs.declared.early.Product.{Product}
 use Rattle.ccpp_top.specs.declared.fault.EarlyFault.{EarlyFault}
-use Rattle.ccpp_top.specs.declared.fault.EarlyFault.TheVariants.{NotYet, Memory}
-use Rattle.ccpp_top.specs.Grammar.{Piece, Opens, Number, Quoted, Is, Other, Pieces}
+use Rattle.ccpp_top.specs.declared.fault.EarlyFault.TheVariants.{Memory}
+use Rattle.ccpp_top.specs.Grammar.{Piece, Opens, Number, Quoted, Is, Pieces}
 
 -- a value with what stands behind it, or none
 pub data Reading (A : Type 0) : Type 0 where

@@ -28,8 +28,8 @@ impl Answer {
     /// The report of a run of a program that shares nothing.
     pub(crate) fn report(alloc: Global, outcome: Outcome) -> Result<Answer, Memory>
         ensures { IfOk result (λ answer. answer ≡ record {
-            text = spec.report outcome.output outcome.standing spec.Determinate;
-            status = status_of outcome.standing;
+          text = spec.report outcome.output outcome.standing spec.Determinate;
+          status = status_of outcome.standing;
         }) }
     {
         let Outcome { output, standing } = outcome;

@@ -59,7 +59,13 @@ fn add_statement(alloc: Global, code: &mut Code, statement: &Statement) -> Resul
 }
 
 /// Adds the code of the sums among the items, and gives what is printed.
-fn add_items(alloc: Global, code: &mut Code, line: u32, first: &Item, rest: &List<Item>) -> Result<List<PrintPart>, Memory>
+fn add_items(
+    alloc: Global,
+    code: &mut Code,
+    line: u32,
+    first: &Item,
+    rest: &List<Item>,
+) -> Result<List<PrintPart>, Memory>
     ensures code { OnOk result (code.new ≡ code.old ++ spec.items_code line (first.now ∷ rest.now)) }
     ensures parts { IfOk result (λ parts. parts ≡ spec.parts_of (first.now ∷ rest.now)) }
 {
@@ -92,7 +98,7 @@ fn add_sum(code: &mut Code, line: u32, sum: &Sum) -> Result<(), Memory>
     add_product(code, line, &sum.first)?;
     for summand in sum.rest.as_slice() {
         add_product(code, line, &summand.product)?;
-        let operator = Operator::of(summand.sign);
+        let operator = Operator::from(summand.sign);
         code.push(Instr::Operate { operator, line })?;
     }
     Ok(())

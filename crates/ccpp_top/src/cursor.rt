@@ -53,7 +53,9 @@ impl<'a> Cursor<'a> {
             return None;
         };
         match token.kind {
-            TokenKind::Name if token_text(self.text, token) == b"main".as_slice() => Some(Fixed::Main),
+            TokenKind::Name if token_text(self.text, token) == b"main".as_slice() => Some(
+                Fixed::Main,
+            ),
             TokenKind::Word(Keyword::Endl) => Some(Fixed::Endl),
             TokenKind::Mark(mark) => fixed_mark(mark),
             _ => None,

@@ -2,10 +2,9 @@
 #![tactic(auto)]
 
 mod answer;
-mod answers;
+mod call;
 mod code;
 mod command;
-mod call;
 mod cursor;
 mod early;
 mod fault;
@@ -18,6 +17,8 @@ mod run;
 mod source;
 mod stack;
 mod status;
+#[cfg(test)]
+mod tests;
 mod word;
 
 pub use call::ccpp;

@@ -1,7 +1,8 @@
 ghost use Rattle.std.specs.Prelude.{◌≡◌, [], ◌∷◌, ◌++◌, IfOk, OnOk};
 ghost use Rattle.cc_core.specs.Effects.{printed};
 ghost use Rattle.cc_core.specs.Steps.{ints};
-ghost use Rattle.ccpp_top.specs.Code.{Code, executed, core_parts};
+ghost use Rattle.ccpp_top.specs.Code.{Code};
+ghost use Rattle.ccpp_top.specs.Execution.{executed, core_parts};
 
 use crate::code::{Instr, PrintPart};
 use crate::outcome::Outcome;

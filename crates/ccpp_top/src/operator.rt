@@ -1,5 +1,5 @@
 ghost use Rattle.std.specs.Prelude.{◌≡◌};
-ghost use Rattle.ccpp_top.specs.Outcome.{operate, as_option, sign_operator};
+ghost use Rattle.ccpp_top.specs.Operator.{operate};
 
 use crate::early::Sign;
 
@@ -11,20 +11,24 @@ pub(crate) enum Operator {
     Multiply,
 }
 
-impl Operator {
-    /// The operator that a sign stands for.
-    pub(crate) fn of(sign: Sign) -> Operator
-        ensures { result ≡ sign_operator sign }
-    {
+impl From<Sign> for Operator {
+    ghost use Rattle.std.specs.Prelude.{◌≡◌};
+    ghost use Rattle.ccpp_top.specs.Operator.{operator_of};
+
+    ghost from_gives = { λ sign operator. operator ≡ operator_of sign };
+
+    fn from(sign: Sign) -> Operator {
         match sign {
             Sign::Plus => Operator::Add,
             Sign::Minus => Operator::Subtract,
         }
     }
+}
 
+impl Operator {
     /// The result, and `None` exactly where it has more than 64 bits.
     pub(crate) fn apply(self, left: i64, right: i64) -> Option<i64>
-        ensures { result ≡ as_option (operate self left right) }
+        ensures { result ≡ operate self left right }
     {
         match self {
             Operator::Add => left.checked_add(right),

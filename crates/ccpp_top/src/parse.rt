@@ -66,7 +66,10 @@ fn statement(alloc: Global, tokens: &mut Cursor<'_>) -> Result<Statement, EarlyF
     let (line, kind) = if tokens.opens(Opener::Cout) {
         (tokens.opener(Opener::Cout)?, print(alloc, tokens)?)
     } else {
-        (tokens.opener(Opener::Return)?, StatementKind::Return(sum(alloc, tokens)?))
+        (
+            tokens.opener(Opener::Return)?,
+            StatementKind::Return(sum(alloc, tokens)?),
+        )
     };
     tokens.fixed(Fixed::Semicolon)?;
     Ok(Statement { line, kind })

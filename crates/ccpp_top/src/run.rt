@@ -1,7 +1,7 @@
-ghost use Rattle.std.specs.Prelude.{◌<◌, [], IfOk};
-ghost use Rattle.ccpp_top.specs.Answers.{Runs, step_limit};
+ghost use Rattle.std.specs.Prelude.{ℕ, List, [], IfOk};
+ghost use Rattle.ccpp_top.specs.Answers.{RunsTo, step_limit};
 ghost use Rattle.ccpp_top.specs.Early.{core_of};
-ghost use Rattle.ccpp_top.specs.Outcome.{most_steps};
+ghost use Rattle.ccpp_top.specs.Grammar.{IsEarlySource};
 
 use crate::code::code_of;
 use crate::early::Early;
@@ -10,10 +10,10 @@ use crate::outcome::Outcome;
 use ccpp_edge::Memory;
 use std::alloc::Global;
 
-/// Runs a program: what its code comes to is what a run of its source comes to.
+/// Runs the program of some source: what its code comes to is what a run of the source definition comes to.
 pub(crate) fn run(alloc: Global, early: &Early) -> Result<Outcome, Memory>
-    requires { most_steps early.now < step_limit }
-    ensures { IfOk result (λ outcome. Runs (core_of early.now) [] step_limit outcome.output outcome.standing) }
+    requires { (text : List ℕ) × IsEarlySource text early.now }
+    ensures { IfOk result (λ outcome. RunsTo (core_of early.now) [] step_limit outcome.output outcome.standing) }
 {
     let code = code_of(alloc, early)?;
     execute(alloc, code.as_slice())

@@ -1,13 +1,11 @@
-ghost use Rattle.std.specs.Prelude.{◌≡◌, ◌≢◌, ◌<◌, IfOk, IfErr, string_bytes};
-ghost use Rattle.ccpp_top.specs.Answers.{step_limit};
+ghost use Rattle.std.specs.Prelude.{◌≡◌, ◌≢◌, IfOk, IfErr, string_bytes};
 ghost use Rattle.ccpp_top.specs.Grammar.{IsEarlySource};
-ghost use Rattle.ccpp_top.specs.Outcome.{most_steps};
 ghost use Rattle.ccpp_top.specs.Source.{IsRefusedFor, lex_fault_text};
 
 use crate::early::Early;
 use crate::fault::EarlyFault;
 use crate::parse::parse;
-use cc_lexer::{LexFault, laws, lex};
+use cc_lexer::{LexFault, lex};
 use ccpp_edge::Memory;
 use std::alloc::{AllocError, Global};
 
@@ -98,12 +96,8 @@ fn lex_fault_text(alloc: Global, fault: LexFault) -> Result<String, Memory>
 /// Reads a source.
 pub(crate) fn read_source(alloc: Global, text: &[u8]) -> Result<Early, Refusal>
     ensures source { IfOk result (IsEarlySource text.now) }
-    ensures short { IfOk result (λ early. most_steps early < step_limit) }
     ensures refused { IfErr result (λ why. why ≢ Refusal.Memory → IsRefusedFor text.now why) }
 {
     let tokens = lex(alloc, text)?;
-    laws::spans();
-    laws::one_cut();
-    laws::one_fault();
     Ok(parse(alloc, text, tokens.as_slice())?)
 }

@@ -18,7 +18,7 @@ impl Model for Stack {
 
 impl Stack {
     ghost use Rattle.std.specs.Prelude.{◌≡◌, [], ◌∷◌, reverse, OnOk};
-    ghost use Rattle.ccpp_top.specs.Code.{top, below};
+    ghost use Rattle.ccpp_top.specs.Execution.{top, below};
 
     /// The empty stack, which takes no memory.
     pub(crate) fn new(alloc: Global) -> Stack

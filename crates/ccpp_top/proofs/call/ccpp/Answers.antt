@@ -1,4 +1,3 @@
-use Rattle.std.proofs.Common.{rules}
 use Rattle.ccpp_top.proofs.AnswerLaws.{says_answers, says_cause}
 use Rattle.ccpp_top.proofs.call.ccpp.Goals as goal
 

@@ -1,5 +1,5 @@
 use Rattle.std.proofs.Common.{◌≡◌, [], drop}
-use Rattle.ccpp_top.specs.Code.{executed}
+use Rattle.ccpp_top.specs.Execution.{executed}
 use Rattle.ccpp_top.proofs.machine.execute.Given as goal
 
 abbrev pub invariant-loop-instr : goal.invariant-loop-instr

@@ -2,7 +2,7 @@ use Rattle.std.proofs.Common.{◌≡◌, ◌++◌, drop}
 use Rattle.std.specs.Slice.Iter.{iter_rest}
 use Rattle.cc_core.specs.Effects.{printed}
 use Rattle.cc_core.specs.Steps.{ints}
-use Rattle.ccpp_top.specs.Code.{core_parts}
+use Rattle.ccpp_top.specs.Execution.{core_parts}
 use Rattle.ccpp_top.proofs.machine.print.Given as goal
 
 abbrev pub invariant-loop-part : goal.invariant-loop-part

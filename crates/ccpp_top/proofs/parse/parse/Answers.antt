@@ -1,4 +1,4 @@
-use Rattle.std.proofs.Common.{◌≡◌, ◌<◌, length, sym, ◌∙◌, arith}
+use Rattle.std.proofs.Common.{sym, ◌∙◌, arith}
 use Rattle.std.proofs.lemmas.Result.{err_from_is_err_and}
 use Rattle.ccpp_top.proofs.SourceLaws.{read_program, unread_program, longer_program}
 use Rattle.ccpp_top.proofs.parse.parse.Goals as goal

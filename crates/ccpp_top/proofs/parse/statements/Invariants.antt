@@ -1,6 +1,5 @@
 use Rattle.std.proofs.Common.{◌≡◌, ◌-◌}
-use Rattle.ccpp_top.specs.declared.piece.Fixed.TheVariants.{LessLess, Star}
-use Rattle.ccpp_top.specs.Reading.{many, many_from, with_front, begins, begins_statement, begins_sign, statement}
+use Rattle.ccpp_top.specs.Reading.{many, many_from, with_front, begins_statement, statement}
 use Rattle.ccpp_top.proofs.parse.statements.Given as goal
 
 abbrev pub invariant-loop-turn : goal.invariant-loop-turn

@@ -1,6 +1,5 @@
-use Rattle.std.proofs.Common.{rules, ◌≡◌, ℕ, List, [], ◌∷◌, sym, ◌∙◌, ap}
+use Rattle.std.proofs.Common.{rules, ◌≡◌, ◌∷◌, sym, ◌∙◌, ap}
 use Rattle.std.specs.Prelude.{codes}
-use Rattle.ccpp_top.specs.Words.{IsFileName}
 use Rattle.ccpp_top.proofs.WordsLaws.{no_file_wrong, file_wrong, more_wrong, asked, none_wrong, name_wrong}
 use Rattle.ccpp_top.proofs.command.Command.of.Goals as goal
 use Rattle.ccpp_top.proofs.command.Command.of.Goals.{After-next-2}

@@ -1,7 +1,7 @@
 use Rattle.std.proofs.Common.{◌∙◌, ap, Err}
 use Rattle.std.proofs.lemmas.Result.{IfOk-weaker}
 use Rattle.ccpp_top.proofs.AnswerLaws.{wrong_words}
-use Rattle.ccpp_top.proofs.answers.answer_to.Goals as goal
+use Rattle.ccpp_top.proofs.call.answer_to.Goals as goal
 
 pub returns-in_ok-format-in-Err-Wrong-clause-says : goal.returns-in_ok-format-in-Err-Wrong-clause-says
 returns-in_ok-format-in-Err-Wrong-clause-says g c =

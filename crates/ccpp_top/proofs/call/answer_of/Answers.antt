@@ -1,7 +1,7 @@
 use Rattle.std.proofs.Common.{◌∙◌}
 use Rattle.std.proofs.lemmas.Result.{IfOk-weaker}
 use Rattle.ccpp_top.proofs.AnswerLaws.{was_refused, was_run}
-use Rattle.ccpp_top.proofs.answers.answer_of.Goals as goal
+use Rattle.ccpp_top.proofs.call.answer_of.Goals as goal
 
 pub returns-in_ok-run-in-Ok : goal.returns-in_ok-run-in-Ok
 returns-in_ok-run-in-Ok c =

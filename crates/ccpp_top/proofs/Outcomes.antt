@@ -1,18 +1,11 @@
 -- What an early program does: the values of its sums, its output and its end, and in how many steps.
-use Rattle.std.specs.Prelude.{ℕ, suc, ◌+◌, List, [], ◌∷◌, ◌++◌, length, ℤ, pos, ◌+ℤ◌, ◌-ℤ◌, ◌*ℤ◌, Option, Some, None, if◌then◌else◌}
-use Rattle.global_ptr.specs.declared.ends.FaultKind.{FaultKind}
-use Rattle.global_ptr.specs.declared.ends.FaultKind.TheVariants.{Overflow}
-use Rattle.global_ptr.specs.declared.ends.Standing.{Standing}
-use Rattle.global_ptr.specs.declared.ends.Standing.TheVariants.{Done, Fault}
+use Rattle.std.proofs.Common.{ℕ, suc, ◌+◌, List, [], ◌∷◌, ◌++◌, length, Some, None}
+use Rattle.std.specs.Prelude.{ℤ, pos, Option, option_and_then, option_map}
+use Rattle.global_ptr.specs.declared.ends.Standing.TheVariants.{Done}
 use Rattle.cc_core.specs.Effects.{printed}
 use Rattle.cc_core.specs.Steps.{ints}
-use Rattle.ccpp_top.specs.Early.{parts_of}
-use Rattle.cc_ops.specs.Values.{Result, Gives, Fails, on_gives}
-use Rattle.cc_ops.specs.Operators.{fits}
-use Rattle.cc_ops.specs.declared.operator.Op.{Op}
-use Rattle.cc_ops.specs.declared.operator.Op.TheVariants as op
 use Rattle.ccpp_top.specs.declared.operator.Operator.{Operator}
-use Rattle.ccpp_top.specs.declared.operator.Operator.TheVariants.{Add, Subtract, Multiply}
+use Rattle.ccpp_top.specs.declared.operator.Operator.TheVariants.{Multiply}
 use Rattle.ccpp_top.specs.declared.outcome.Outcome.{Outcome}
 use Rattle.ccpp_top.specs.declared.early.Early.{Early}
 use Rattle.ccpp_top.specs.declared.early.Statement.{Statement}
@@ -20,63 +13,40 @@ use Rattle.ccpp_top.specs.declared.early.StatementKind.{StatementKind}
 use Rattle.ccpp_top.specs.declared.early.StatementKind.TheVariants as statement
 use Rattle.ccpp_top.specs.declared.early.Item.{Item}
 use Rattle.ccpp_top.specs.declared.early.Item.TheVariants as item
-use Rattle.ccpp_top.specs.declared.early.Sign.{Sign}
-use Rattle.ccpp_top.specs.declared.early.Sign.TheVariants.{Plus, Minus}
 use Rattle.ccpp_top.specs.declared.early.Sum.{Sum}
 use Rattle.ccpp_top.specs.declared.early.Summand.{Summand}
 use Rattle.ccpp_top.specs.declared.early.Product.{Product}
+use Rattle.ccpp_top.specs.Early.{parts_of}
+use Rattle.ccpp_top.specs.Execution.{or_fault}
+use Rattle.ccpp_top.specs.Operator.{operate, operator_of}
 
-abbrev pub exact : Operator → ℤ → ℤ → ℤ
-exact Add a b = a +ℤ b
-exact Subtract a b = a -ℤ b
-exact Multiply a b = a *ℤ b
+-- none where there is no left operand, no right one, or no result
+abbrev pub combine : Operator → Option ℤ → Option ℤ → Option ℤ
+combine o r q = option_and_then (λ a. option_and_then (operate o a) q) r
 
--- the number where it has 64 bits
-abbrev pub fitted : ℤ → Result ℤ
-fitted n = if fits n then Gives n else Fails Overflow
-
-abbrev pub operate : Operator → ℤ → ℤ → Result ℤ
-operate o a b = fitted (exact o a b)
-
-abbrev pub as_option : {A : Type 0} → Result A → Option A
-as_option (Gives a) = Some a
-as_option (Fails kind) = None
-
-abbrev pub combine : Operator → Result ℤ → Result ℤ → Result ℤ
-combine o r q = on_gives r (λ a. on_gives q (operate o a))
-
-abbrev pub sign_operator : Sign → Operator
-sign_operator Plus = Add
-sign_operator Minus = Subtract
-
-abbrev pub multiplied : Result ℤ → List ℤ → Result ℤ
+abbrev pub multiplied : Option ℤ → List ℤ → Option ℤ
 multiplied r [] = r
-multiplied r (n ∷ ns) = multiplied (combine Multiply r (Gives n)) ns
+multiplied r (n ∷ ns) = multiplied (combine Multiply r (Some n)) ns
 
-abbrev pub product_value : Product → Result ℤ
-product_value p = multiplied (Gives p.first) p.rest
+abbrev pub product_value : Product → Option ℤ
+product_value p = multiplied (Some p.first) p.rest
 
-abbrev pub totalled : Result ℤ → List Summand → Result ℤ
+abbrev pub totalled : Option ℤ → List Summand → Option ℤ
 totalled r [] = r
-totalled r (s ∷ ss) = totalled (combine (sign_operator s.sign) r (product_value s.product)) ss
+totalled r (s ∷ ss) = totalled (combine (operator_of s.sign) r (product_value s.product)) ss
 
-abbrev pub sum_value : Sum → Result ℤ
+abbrev pub sum_value : Sum → Option ℤ
 sum_value s = totalled (product_value s.first) s.rest
 
+abbrev pub both : Option ℤ → Option (List ℤ) → Option (List ℤ)
+both r q = option_and_then (λ v. option_map (λ vs. v ∷ vs) q) r
+
 -- the values of the sums among the items
-abbrev pub item_values : List Item → Result (List ℤ)
-item_values [] = Gives []
-item_values (item.Value s ∷ is) = on_gives (sum_value s) (λ v. on_gives (item_values is) (λ vs. Gives (v ∷ vs)))
+abbrev pub item_values : List Item → Option (List ℤ)
+item_values [] = Some []
+item_values (item.Value s ∷ is) = both (sum_value s) (item_values is)
 item_values (item.Str bytes ∷ is) = item_values is
 item_values (item.Endl ∷ is) = item_values is
-
-abbrev pub fault_at : ℕ → FaultKind → Standing
-fault_at line kind = Fault (record { kind = kind; line = line })
-
--- goes on with what is given, or ends at the fault, with this output
-abbrev pub or_fault : {A : Type 0} → List ℕ → ℕ → Result A → (A → Outcome) → Outcome
-or_fault out line (Gives a) go = go a
-or_fault out line (Fails kind) go = record { output = out; standing = fault_at line kind }
 
 -- a print writes all its items, or none where a sum is at a fault
 abbrev pub done_by : List ℕ → ℕ → StatementKind → (List ℕ → Outcome) → Outcome

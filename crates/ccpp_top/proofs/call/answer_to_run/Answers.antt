@@ -1,7 +1,7 @@
 use Rattle.std.proofs.Common.{◌∙◌, ap, Err}
 use Rattle.std.proofs.lemmas.Result.{IfOk-weaker}
 use Rattle.ccpp_top.proofs.AnswerLaws.{answered, missing, unread}
-use Rattle.ccpp_top.proofs.answers.answer_to_run.Goals as goal
+use Rattle.ccpp_top.proofs.call.answer_to_run.Goals as goal
 
 pub returns-in-Ok-clause-says : goal.returns-in-Ok-clause-says
 returns-in-Ok-clause-says g c =
