@@ -15,7 +15,14 @@ fn main(rt: HostRuntime) -> ExitCode {
     };
     let mut shelf = RealShelf::new(alloc, &rt);
     let mut out = RealSink::new(&rt);
-    let status = ccpp(&rt, alloc, words.as_slice(), &mut shelf, &mut out, &OpenGate);
+    let status = ccpp(
+        &rt,
+        alloc,
+        words.as_slice(),
+        &mut shelf,
+        &mut out,
+        &OpenGate,
+    );
     ExitCode::from(status.number())
 }
 

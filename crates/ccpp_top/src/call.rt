@@ -59,11 +59,7 @@ pub fn ccpp<R: Threads + Sync, S: Shelf, O: Sink, G: Gate>(
 }
 
 /// What is answered to the words. It reads from the shelf at most once, and writes nothing to it.
-fn answer_to<S: Shelf>(
-    alloc: Global,
-    words: &[Word],
-    shelf: &mut S,
-) -> Result<Answer, Memory>
+fn answer_to<S: Shelf>(alloc: Global, words: &[Word], shelf: &mut S) -> Result<Answer, Memory>
     ensures says { IfOk result (λ answer. Says words.now (S.held shelf.old) (S.faults shelf.old) (S.faults shelf.new) answer.text answer.status) }
     ensures held { S.held shelf.new ≡ S.held shelf.old }
 {
