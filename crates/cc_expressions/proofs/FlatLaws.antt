@@ -40,7 +40,7 @@ module _ {A : Type 0} (ks : Kinds) (p : Reader (List A)) where
   flat_ends all end turn a found h i = let m : end - turn ≡ 0 = omega arith in h ∙ (ap (λ n. with_front found (flat_from ks p n a)) m ∙ ap (λ xs. Good xs a) (append_nil found))
 
   pub flat_goes : (all : Answer (List A)) (end turn : ℕ) (a b : Lexemes) (x found : List A) → all ≡ with_front found (flat_from ks p (end - turn) a) → turn < end → heads ks a ≡ true → p a ≡ Good x b
-    → all ≡ with_front (found ++ x) (flat_from ks p (end - (turn + 1)) b)
+      → all ≡ with_front (found ++ x) (flat_from ks p (end - (turn + 1)) b)
   flat_goes all end turn a b x found h i j k =
       let m : end - turn ≡ suc (end - (turn + 1)) = omega arith in
       h ∙ (ap (λ n. with_front found (flat_from ks p n a)) m ∙ step (end - (turn + 1)) a b x found j k)

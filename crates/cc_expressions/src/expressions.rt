@@ -85,7 +85,12 @@ impl<F: Fn(Global, &mut Cursor<'_>, usize, Form) -> Result<Expr, Fault>> Express
         ensures { Gives (at_level read.args self.now.depth tokens.old) result tokens.new }
     {
         tokens.open_mark(self.depth, Mark::OpenParen)?;
-        let args = listed(self.alloc, tokens, &FIRST_EXPR, |tokens| self.inner(tokens, Form::Whole))?;
+        let args = listed(
+            self.alloc,
+            tokens,
+            &FIRST_EXPR,
+            |tokens| self.inner(tokens, Form::Whole),
+        )?;
         tokens.mark(Mark::CloseParen)?;
         Ok(args)
     }
@@ -293,7 +298,10 @@ impl<F: Fn(Global, &mut Cursor<'_>, usize, Form) -> Result<Expr, Fault>> Express
         ensures { Gives (at_level read.creation self.now.depth tokens.old) result tokens.new }
     {
         let line = tokens.word(Keyword::New)?;
-        if tokens.at_any(&[TokenKind::Word(Keyword::Sync), TokenKind::Word(Keyword::Int)]) {
+        if tokens.at_any(&[
+            TokenKind::Word(Keyword::Sync),
+            TokenKind::Word(Keyword::Int),
+        ]) {
             return self.new_int(tokens, line);
         }
         self.new_object(tokens, line)
@@ -337,7 +345,12 @@ impl<F: Fn(Global, &mut Cursor<'_>, usize, Form) -> Result<Expr, Fault>> Express
         requires { Nests self.now.depth (F.pre self.now.nested) (F.post self.now.nested) }
         ensures { Gives (at_level read.product self.now.depth tokens.old) result tokens.new }
     {
-        level(self.alloc, tokens, Precedence::Product, |tokens| self.unary_line(tokens))
+        level(
+            self.alloc,
+            tokens,
+            Precedence::Product,
+            |tokens| self.unary_line(tokens),
+        )
     }
 
     #[tactic(auto, unfolding(cc_grammar::specs::ReadExpressions::sum))]
@@ -345,7 +358,12 @@ impl<F: Fn(Global, &mut Cursor<'_>, usize, Form) -> Result<Expr, Fault>> Express
         requires { Nests self.now.depth (F.pre self.now.nested) (F.post self.now.nested) }
         ensures { Gives (at_level read.sum self.now.depth tokens.old) result tokens.new }
     {
-        level(self.alloc, tokens, Precedence::Sum, |tokens| self.product(tokens))
+        level(
+            self.alloc,
+            tokens,
+            Precedence::Sum,
+            |tokens| self.product(tokens),
+        )
     }
 
     #[tactic(auto, unfolding(cc_grammar::specs::ReadExpressions::order))]
@@ -353,7 +371,12 @@ impl<F: Fn(Global, &mut Cursor<'_>, usize, Form) -> Result<Expr, Fault>> Express
         requires { Nests self.now.depth (F.pre self.now.nested) (F.post self.now.nested) }
         ensures { Gives (at_level read.order self.now.depth tokens.old) result tokens.new }
     {
-        level(self.alloc, tokens, Precedence::Order, |tokens| self.sum(tokens))
+        level(
+            self.alloc,
+            tokens,
+            Precedence::Order,
+            |tokens| self.sum(tokens),
+        )
     }
 
     #[tactic(auto, unfolding(cc_grammar::specs::ReadExpressions::equal))]
@@ -361,7 +384,12 @@ impl<F: Fn(Global, &mut Cursor<'_>, usize, Form) -> Result<Expr, Fault>> Express
         requires { Nests self.now.depth (F.pre self.now.nested) (F.post self.now.nested) }
         ensures { Gives (at_level read.equal self.now.depth tokens.old) result tokens.new }
     {
-        level(self.alloc, tokens, Precedence::Equality, |tokens| self.order(tokens))
+        level(
+            self.alloc,
+            tokens,
+            Precedence::Equality,
+            |tokens| self.order(tokens),
+        )
     }
 
     #[tactic(auto, unfolding(cc_grammar::specs::ReadExpressions::conjunction))]
@@ -369,7 +397,12 @@ impl<F: Fn(Global, &mut Cursor<'_>, usize, Form) -> Result<Expr, Fault>> Express
         requires { Nests self.now.depth (F.pre self.now.nested) (F.post self.now.nested) }
         ensures { Gives (at_level read.conjunction self.now.depth tokens.old) result tokens.new }
     {
-        level(self.alloc, tokens, Precedence::And, |tokens| self.equal(tokens))
+        level(
+            self.alloc,
+            tokens,
+            Precedence::And,
+            |tokens| self.equal(tokens),
+        )
     }
 
     #[tactic(auto, unfolding(cc_grammar::specs::ReadExpressions::expr_line))]
@@ -377,7 +410,12 @@ impl<F: Fn(Global, &mut Cursor<'_>, usize, Form) -> Result<Expr, Fault>> Express
         requires { Nests self.now.depth (F.pre self.now.nested) (F.post self.now.nested) }
         ensures { Gives (at_level read.expr_line self.now.depth tokens.old) result tokens.new }
     {
-        level(self.alloc, tokens, Precedence::Or, |tokens| self.conjunction(tokens))
+        level(
+            self.alloc,
+            tokens,
+            Precedence::Or,
+            |tokens| self.conjunction(tokens),
+        )
     }
 
     /// A place: a `*` and its operand, or a chain that ends as one.

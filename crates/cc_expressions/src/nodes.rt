@@ -47,7 +47,11 @@ pub fn member_of(arrow: bool, name: Name, args: Option<List<Expr>>) -> Suffix
     let Name { text, .. } = name;
     match args {
         None => Suffix::Field { arrow, name: text },
-        Some(args) => Suffix::CallOn { arrow, name: text, args },
+        Some(args) => Suffix::CallOn {
+            arrow,
+            name: text,
+            args,
+        },
     }
 }
 

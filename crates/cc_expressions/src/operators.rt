@@ -23,7 +23,10 @@ fn operators(precedence: Precedence) -> &'static [TokenKind]
     match precedence {
         Precedence::Or => &[TokenKind::Mark(Mark::Or)],
         Precedence::And => &[TokenKind::Mark(Mark::And)],
-        Precedence::Equality => &[TokenKind::Mark(Mark::Equal), TokenKind::Mark(Mark::NotEqual)],
+        Precedence::Equality => &[
+            TokenKind::Mark(Mark::Equal),
+            TokenKind::Mark(Mark::NotEqual),
+        ],
         Precedence::Order => &[
             TokenKind::Mark(Mark::Less),
             TokenKind::Mark(Mark::LessEqual),

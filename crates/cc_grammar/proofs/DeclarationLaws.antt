@@ -47,22 +47,22 @@ star_same =
     let both = y.word Sync >> (y.word Global >> y.pure (pointer true true)) in
     let bare = y.pure (pointer false false) in
     factor (y.mark m.Star) (λ _. y.has_word Global >>= whole) (λ _. both) then under (y.mark m.Star) (λ _.
-      same_or (flagged Global whole (λ b a. inl (inl (inl (inl refl))))) (same both)
-      then regroup first (whole false) both
-      then same_or (same first) (
-        same_or (flagged Sync (λ once. y.pure (pointer false once)) (λ b a. refl)) (same both)
-        then regroup second bare both
-        then same_or (same second) (swap bare both)
-        then back (regroup second both bare)
-        then same_or (factor (y.word Sync) _ _ then under (y.word Sync) (λ _. swap _ _ then back (flagged Global (λ remote. y.pure (pointer remote true)) (λ b a. refl)))) (same bare)
-      ))
+    same_or (flagged Global whole (λ b a. inl (inl (inl (inl refl))))) (same both)
+    then regroup first (whole false) both
+    then same_or (same first) (
+    same_or (flagged Sync (λ once. y.pure (pointer false once)) (λ b a. refl)) (same both)
+    then regroup second bare both
+    then same_or (same second) (swap bare both)
+    then back (regroup second both bare)
+    then same_or (factor (y.word Sync) _ _ then under (y.word Sync) (λ _. swap _ _ then back (flagged Global (λ remote. y.pure (pointer remote true)) (λ b a. refl)))) (same bare)
+    ))
 
 star : {n : ℕ} → Reads n r.star r.star g.star (at_mark m.Star) (kinds (k.Word Sync ∷ k.Word Global ∷ [])) false
 unfolding r.star r.global_pointer r.sync_pointer
 star =
     by_same star_same (rules.declared _ _ (seq (mark m.Star) (λ _.
-        either (seq (word Global) (λ _. seq (has_word Sync) (λ once. pure _) refl) refl)
-        (either (seq (word Sync) (λ _. seq (has_word Global) (λ remote. pure _) refl) refl) (pure _) refl) refl) refl) refl refl)
+    either (seq (word Global) (λ _. seq (has_word Sync) (λ once. pure _) refl) refl)
+    (either (seq (word Sync) (λ _. seq (has_word Global) (λ remote. pure _) refl) refl) (pure _) refl) refl) refl) refl refl)
 
 pub maybe_star : {n : ℕ} → Reads n r.maybe_star r.maybe_star g.maybe_star (at_mark m.Star) (kinds (k.Word Sync ∷ k.Word Global ∷ k.Mark m.Star ∷ [])) true
 unfolding r.maybe_star g.maybe_star
@@ -130,7 +130,7 @@ module _ (n : ℕ) (b : Spec) where
   unfolding r.var r.var_end r.valued r.built r.plain_var
   var =
       by_same var_same (rules.declared _ _ (seq maybe_star (λ p. seq name (λ t.
-          either (seq (mark m.Assign) (λ _. kept _ (expr n)) refl) (either (kept _ (args_at n)) (seq (maybe_bracketed_at n) (λ length. pure _) refl) refl) refl) refl) refl) refl refl)
+      either (seq (mark m.Assign) (λ _. kept _ (expr n)) refl) (either (kept _ (args_at n)) (seq (maybe_bracketed_at n) (λ length. pure _) refl) refl) refl) refl) refl) refl refl)
 
 pub decl : (n : ℕ) → Reads n (r.decl (pred n)) (r.decl n) (g.decl n) first_spec (at_mark m.Comma ++ at_mark m.OpenBracket ++ goes_var) false
 unfolding r.decl re.commas re.after_comma g.decl
@@ -140,8 +140,8 @@ decl n = rules.declared _ _ (seq spec (λ b. seq (var n b) (λ x. seq (many (seq
 
 spec_same : {A : Type 0} (u : Spec → Symbol A) → ((b : Spec) (a : Lexemes) → (u b).front a a)
     → Same (g.spec >>= u) (((y.word Int >>= (λ line. y.pure (spec_of base.Int line))) >>= u)
-      or (((y.word Sync >>= (λ line. y.word Int >> y.pure (spec_of base.SyncInt line))) >>= u)
-      or (((y.word Void >>= (λ line. y.pure (spec_of base.Void line))) >>= u) or (y.name >>= (λ t. u (spec_of (base.Named t.text) t.line))))))
+    or (((y.word Sync >>= (λ line. y.word Int >> y.pure (spec_of base.SyncInt line))) >>= u)
+    or (((y.word Void >>= (λ line. y.pure (spec_of base.Void line))) >>= u) or (y.name >>= (λ t. u (spec_of (base.Named t.text) t.line))))))
 unfolding g.spec
 spec_same u none =
     spread _ _ u then same_or (same _) (spread _ _ u then same_or (same _) (spread _ _ u then same_or (same _) (nest y.name _ u then under y.name (λ t. unit _ u (none _)))))
@@ -151,9 +151,9 @@ pub follows_spec : {A : Type 0} {ks : Kinds} (u : Spec → Symbol A) → ((b : S
     → Follows ks (g.spec >>= u)
 follows_spec u none h k =
     follows_same (spec_same u none) (
-      follows_or (follows_seq (follows_other (kept {n = 0} _ (word Int)) refl))
-      (follows_or (follows_seq (follows_other (seq {n = 0} (word Sync) (λ line. seq (word Int) (λ _. pure _) refl) refl) refl))
-      (follows_or (follows_seq (follows_other (kept {n = 0} _ (word Void)) refl)) (follows_name _ (λ t. h _) (λ t. k _))))
+    follows_or (follows_seq (follows_other (kept {n = 0} _ (word Int)) refl))
+    (follows_or (follows_seq (follows_other (seq {n = 0} (word Sync) (λ line. seq (word Int) (λ _. pure _) refl) refl) refl))
+    (follows_or (follows_seq (follows_other (kept {n = 0} _ (word Void)) refl)) (follows_name _ (λ t. h _) (λ t. k _))))
     )
 
 -- the same, where what follows the type is read exactly

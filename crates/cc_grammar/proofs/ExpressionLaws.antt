@@ -77,8 +77,8 @@ module _ (n : ℕ) (oe ou re ru : Reader Expr) (ge gu : Symbol Expr) (inner : Is
   unfolding r.creation r.new_int r.new_object g.creation
   creation =
       by_same (factor (g_word New) _ _) (declared _ _ (seq (word New) (λ line.
-          either (seq (has_word Sync) (λ once. seq (word Int) (λ _. seq maybe_bracketed (λ x. pure _) refl) refl) refl)
-          (seq name (λ t. seq maybe_args (λ xs. pure _) refl) refl) refl) refl) refl refl)
+      either (seq (has_word Sync) (λ once. seq (word Int) (λ _. seq maybe_bracketed (λ x. pure _) refl) refl) refl)
+      (seq name (λ t. seq maybe_args (λ xs. pure _) refl) refl) refl) refl) refl refl)
 
   pub postfix : Reads n (r.postfix (pred n) oe ou) (r.postfix n re ru) (g.postfix n ge gu) first_prim goes_unary false
   unfolding r.postfix g.postfix

@@ -81,8 +81,8 @@ module _ (n : ℕ) where
   unfolding g.method g.function g.fields
   typed_same =
       same_or
-        (nest gd.spec _ _ then under gd.spec (λ b. nest gd.maybe_star _ _ then under gd.maybe_star (λ p. nest y.name _ _)))
-        (under gd.spec (λ b. slot_then n (more_fields b) (λ x a. inl (a, [], refl, inl (inl refl)))))
+      (nest gd.spec _ _ then under gd.spec (λ b. nest gd.maybe_star _ _ then under gd.maybe_star (λ p. nest y.name _ _)))
+      (under gd.spec (λ b. slot_then n (more_fields b) (λ x a. inl (a, [], refl, inl (inl refl)))))
       then factor gd.spec _ _
       then under gd.spec (λ b. joined_two (method_end b) (fields_end b))
 
@@ -97,8 +97,8 @@ module _ (n : ℕ) where
   unfolding r.method_end r.fields_end re.commas re.after_comma r.field
   typed_reads b =
       seq maybe_star (λ p. seq name (λ t.
-        either (kept _ (end_reads b p t))
-        (seq (maybe_bracketed_at n) (λ length. seq (many (seq (mark m.Comma) (λ _. kept _ (slot n)) refl) refl) (λ xs. seq (mark m.Semicolon) (λ _. pure _) refl) refl) refl) refl) refl) refl
+      either (kept _ (end_reads b p t))
+      (seq (maybe_bracketed_at n) (λ length. seq (many (seq (mark m.Comma) (λ _. kept _ (slot n)) refl) refl) (λ xs. seq (mark m.Semicolon) (λ _. pure _) refl) refl) refl) refl) refl) refl
 
   typed_member : Reads n (r.typed_member (pred n)) (r.typed_member n) (g.method n or g.fields n) first_spec [] false
   unfolding r.typed_member
@@ -138,7 +138,7 @@ module _ (n : ℕ) where
   unfolding r.plain_member
   plain_member =
       declared _ _ (by_second [] begins_build build typed_member build_follows typed_follows build_name typed_name
-        (λ a h. absurd (begins_none a h)) second_build (λ a _ h. first_no_build a h) (λ a _ h i. second_no_build a h i)) refl refl
+      (λ a h. absurd (begins_none a h)) second_build (λ a _ h. first_no_build a h) (λ a _ h i. second_no_build a h i)) refl refl
 
   member_same : Same (g.member n) (g.label or (g.atomic_method n or (g.build n or (g.method n or g.fields n))))
   unfolding g.member
@@ -159,9 +159,9 @@ constant : (n : ℕ) → Reads n (r.constant (pred n)) (r.constant n) (g.constan
 unfolding r.constant g.constant
 constant n =
     by_same (
-      under (y.word Const) (λ line.
-        closing_in (y.word Int) y.name (y.mark m.Assign) _ (λ t a. inl ((expr n).fronts.none a)) then under _ (λ t.
-          closing (ge.expr n) (y.mark m.Semicolon) _ (λ x a. refl)))
+    under (y.word Const) (λ line.
+    closing_in (y.word Int) y.name (y.mark m.Assign) _ (λ t a. inl ((expr n).fronts.none a)) then under _ (λ t.
+    closing (ge.expr n) (y.mark m.Semicolon) _ (λ x a. refl)))
     ) (seq (word Const) (λ line. seq int_name (λ t. seq (expr_semicolon n) (λ x. pure _) refl) refl) refl)
 
 class_word : {n : ℕ} → Reads n r.class_word r.class_word g.class_word (kinds (k.Word Class ∷ k.Word Struct ∷ [])) [] false
@@ -172,7 +172,7 @@ class : (n : ℕ) → Reads n (r.class (pred n)) (r.class n) (g.class n) first_c
 unfolding r.class r.class_head r.global_head r.local_head g.class g.class_head
 class n =
     declared _ _ (seq (either (seq (word Global) (λ line. kept _ class_word) refl) (kept _ class_word) refl) (λ h.
-      seq name (λ t. seq (members n) (λ xs. seq (mark m.Semicolon) (λ _. pure _) refl) refl) refl) refl) refl refl
+    seq name (λ t. seq (members n) (λ xs. seq (mark m.Semicolon) (λ _. pure _) refl) refl) refl) refl) refl refl
 
 item : (n : ℕ) → Reads n (r.item (pred n)) (r.item n) (g.item n) first_item [] false
 unfolding r.item r.function_item g.item

@@ -147,7 +147,7 @@ module _ {A : Type 0} {n : ℕ} {o p : Reader A} {s : Symbol A} {f goes : Kinds}
   many_more i zero = more_same _
   many_more i (suc m) =
       more_choose (heads f) {p = r.◌>>=◌ o (λ x. r.◌>>=◌ (r.many_from f o m) (λ xs. r.pure (x ∷ xs)))} {p' = r.◌>>=◌ p (λ x. r.◌>>=◌ (r.many_from f p m) (λ xs. r.pure (x ∷ xs)))} (
-        more_seq (l.more i) (λ x. more_seq (many_more i m) (λ xs. more_same _) (λ xs b. omega arith)) (next_onward f p k.ahead m)
+      more_seq (l.more i) (λ x. more_seq (many_more i m) (λ xs. more_same _) (λ xs b. omega arith)) (next_onward f p k.ahead m)
       ) (more_same _)
 
   many_deep : IsPositive n → (m : ℕ) (a c : Lexemes) → r.many_from f o m a ≡ Failed TooDeep c → Takes (g.many s) a c

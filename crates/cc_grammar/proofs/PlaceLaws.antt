@@ -64,15 +64,15 @@ module _ (n : ℕ) where
   places_fronts =
       fronts.either (fronts.seq (fronts.token _ _) (λ t. fronts.pure _))
       (fronts.seq root.fronts (λ x. fronts.seq tails.fronts (λ xs. fronts.seq (fronts.either
-        (fronts.seq (expressions.bracketed n _ _ _ _ _ _ (inner_expr n) (inner_unary n)).fronts (λ x. fronts.pure _))
-        (fronts.seq dot (λ arrow. fronts.seq (fronts.token _ _) (λ t. fronts.pure _)))) (λ l. fronts.pure _))))
+      (fronts.seq (expressions.bracketed n _ _ _ _ _ _ (inner_expr n) (inner_unary n)).fronts (λ x. fronts.pure _))
+      (fronts.seq dot (λ arrow. fronts.seq (fronts.token _ _) (λ t. fronts.pure _)))) (λ l. fronts.pure _))))
 
   calls_fronts : Fronts calls
   unfolding g.name_called g.chain g.call_tail
   calls_fronts =
       fronts.either (fronts.seq (fronts.token _ _) (λ t. fronts.seq (args_at n).fronts (λ xs. fronts.pure _)))
       (fronts.seq root.fronts (λ x. fronts.seq tails.fronts (λ xs. fronts.seq
-        (fronts.seq dot (λ arrow. fronts.seq (fronts.token _ _) (λ t. fronts.seq (args_at n).fronts (λ xs. fronts.pure _)))) (λ l. fronts.pure _))))
+      (fronts.seq dot (λ arrow. fronts.seq (fronts.token _ _) (λ t. fronts.seq (args_at n).fronts (λ xs. fronts.pure _)))) (λ l. fronts.pure _))))
 
   -- a chain that goes on by its end
   pub chained_by : {A : Type 0} (kp kc : Expr → Symbol A) → Same ((places >>= kp) or (calls >>= kc)) (going_on kp kc)

@@ -87,9 +87,9 @@ module _ (n : ℕ) where
       then same_or (factor (ge.place n) set_to counted) (same (count_first or (ge.call n >>= as_call)))
       then forward (ge.place n >>= changed_to) count_first (ge.call n >>= as_call)
       then same_or (same count_first) (
-        same_or (spread deref_place (places n) changed_to) (same (calls n >>= as_call))
-        then regroup (deref_place >>= changed_to) (places n >>= changed_to) (calls n >>= as_call)
-        then same_or (same (deref_place >>= changed_to)) (chained_by n changed_to as_call)
+      same_or (spread deref_place (places n) changed_to) (same (calls n >>= as_call))
+      then regroup (deref_place >>= changed_to) (places n >>= changed_to) (calls n >>= as_call)
+      then same_or (same (deref_place >>= changed_to)) (chained_by n changed_to as_call)
       )
 
   -- what follows a root
@@ -117,7 +117,7 @@ module _ (n : ℕ) where
   unfolding r.simple r.count_first r.deref_changed
   simple =
       by_same simple_same (declared _ _
-          (either (seq count (λ c. seq (place n) (λ p. pure _) refl) refl) (either (seq (deref n) changed refl) chain refl) refl) refl refl)
+      (either (seq count (λ c. seq (place n) (λ p. pure _) refl) refl) (either (seq (deref n) changed refl) chain refl) refl) refl refl)
 
   -- ---- what follows a name with which a simple statement begins
 
@@ -149,16 +149,16 @@ module _ (n : ℕ) where
   unfolding ge.root
   going_same =
       spread _ _ after_root then same_or (
-        nest y.name _ after_root then under y.name (λ t. nest (y.opt (ge.args_at n)) _ after_root then under (y.opt (ge.args_at n)) (λ xs. unit _ after_root (λ a. (after_root_reads _).fronts.none a)))
+      nest y.name _ after_root then under y.name (λ t. nest (y.opt (ge.args_at n)) _ after_root then under (y.opt (ge.args_at n)) (λ xs. unit _ after_root (λ a. (after_root_reads _).fronts.none a)))
       ) (same _)
 
   pub simple_follows : Follows seconds (g.simple n)
   simple_follows =
       follows_same simple_same (follows_or (follows_seq (follows_other (count {n = n}) refl)) (
-        follows_or (follows_seq (follows_other (deref n) refl)) (follows_same going_same (
-          follows_or (follows_name after_name name_begins name_goes) (follows_seq (follows_other
-            (either {n = n} (kept _ (word This)) (expressions.paren n _ _ _ _ _ _ (inner_expr n) (inner_unary n)) refl) refl))
-        ))
+      follows_or (follows_seq (follows_other (deref n) refl)) (follows_same going_same (
+      follows_or (follows_name after_name name_begins name_goes) (follows_seq (follows_other
+      (either {n = n} (kept _ (word This)) (expressions.paren n _ _ _ _ _ _ (inner_expr n) (inner_unary n)) refl) refl))
+      ))
       ))
 
   pub simple_name : MayBeName (g.simple n)

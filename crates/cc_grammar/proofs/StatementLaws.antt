@@ -58,7 +58,7 @@ shift : (n : ℕ) → Reads n (r.shift (pred n)) (r.shift n) (y.mark m.LessLess 
 unfolding r.shift r.out r.out_value r.out_string r.out_endl g.out
 shift n =
     declared _ _ (seq (mark m.LessLess) (λ _.
-      either (kept _ (expressions.sum n _ _ _ _ _ _ (inner_expr n) (inner_unary n))) (either (kept _ string) (kept _ (word Endl)) refl) refl) refl) refl refl
+    either (kept _ (expressions.sum n _ _ _ _ _ _ (inner_expr n) (inner_unary n))) (either (kept _ string) (kept _ (word Endl)) refl) refl) refl) refl refl
 
 print : (n : ℕ) → Reads n (r.print (pred n)) (r.print n) (g.print n) (at_word Cout) [] false
 unfolding r.print r.shifts g.print
@@ -70,7 +70,7 @@ beginning : (n : ℕ) → Reads n (r.beginning (pred n)) (r.beginning n) (g.begi
 unfolding r.beginning g.beginning
 beginning n =
     declared _ _ (by_second first_words begins_decl (decl n) (kept _ (simple n)) (decl_follows n) (follows_seq (simple_follows n)) (decl_name n) (λ t c h. inl (simple_name n t c h))
-      words_decl second_decl (λ a. first_no_decl first_simple a refl) (λ a. second_no_decl first_simple seconds a refl refl)) refl refl
+    words_decl second_decl (λ a. first_no_decl first_simple a refl) (λ a. second_no_decl first_simple seconds a refl refl)) refl refl
 
 header_start : (n : ℕ) → Reads n (r.header_start (pred n)) (r.header_start n) (g.maybe_beginning n >>= (λ xs. y.mark m.Semicolon >> y.pure xs)) (first_words ++ first_simple ++ at_mark m.Semicolon) [] false
 unfolding r.header_start r.maybe_beginning g.maybe_beginning
@@ -88,10 +88,10 @@ header : (n : ℕ) → Reads n (r.header (pred n)) (r.header n) (g.header n) (at
 unfolding r.header g.header g.maybe_beginning
 header n =
     by_same (
-      under (y.open_mark n m.OpenParen) (λ _.
-        closing (g.maybe_beginning (pred n)) (y.mark m.Semicolon) _ (λ start a. inl (inr refl)) then under _ (λ start.
-          closing (y.opt (ge.expr (pred n))) (y.mark m.Semicolon) _ (λ x a. inl (inr refl)) then under _ (λ x.
-            closing (y.opt (g.simple (pred n))) (y.mark m.CloseParen) _ (λ step a. refl))))
+    under (y.open_mark n m.OpenParen) (λ _.
+    closing (g.maybe_beginning (pred n)) (y.mark m.Semicolon) _ (λ start a. inl (inr refl)) then under _ (λ start.
+    closing (y.opt (ge.expr (pred n))) (y.mark m.Semicolon) _ (λ x a. inl (inr refl)) then under _ (λ x.
+    closing (y.opt (g.simple (pred n))) (y.mark m.CloseParen) _ (λ step a. refl))))
     ) (nested n (k.Mark m.OpenParen) (λ _ _. seq (header_start (pred n)) (λ start. seq (header_test (pred n)) (λ x. seq (header_step (pred n)) (λ step. pure _) refl) refl) refl))
 
 -- 'int' NAME '='
@@ -107,11 +107,11 @@ counter : (n : ℕ) → Reads n (r.counter (pred n)) (r.counter n) (g.counter n)
 unfolding r.counter g.counter
 counter n =
     by_same (
-      under (y.open_mark n m.OpenParen) (λ _.
-        closing_in (y.word Int) y.name (y.mark m.Assign) _ (λ t a. inl ((expr (pred n)).fronts.none a)) then under _ (λ t.
-          closing (ge.expr (pred n)) (y.mark m.Semicolon) _ (λ start a. inl ((expr (pred n)).fronts.none a)) then under _ (λ start.
-            closing (ge.expr (pred n)) (y.mark m.Semicolon) _ (λ x a. inl ((simple (pred n)).fronts.none a)) then under _ (λ x.
-              closing (g.simple (pred n)) (y.mark m.CloseParen) _ (λ step a. refl)))))
+    under (y.open_mark n m.OpenParen) (λ _.
+    closing_in (y.word Int) y.name (y.mark m.Assign) _ (λ t a. inl ((expr (pred n)).fronts.none a)) then under _ (λ t.
+    closing (ge.expr (pred n)) (y.mark m.Semicolon) _ (λ start a. inl ((expr (pred n)).fronts.none a)) then under _ (λ start.
+    closing (ge.expr (pred n)) (y.mark m.Semicolon) _ (λ x a. inl ((simple (pred n)).fronts.none a)) then under _ (λ x.
+    closing (g.simple (pred n)) (y.mark m.CloseParen) _ (λ step a. refl)))))
     ) (nested n (k.Mark m.OpenParen) (λ _ _. seq int_name (λ t. seq (expr_semicolon (pred n)) (λ start. seq (expr_semicolon (pred n)) (λ x. seq (counter_step (pred n)) (λ step. pure _) refl) refl) refl) refl))
 
 -- ---- statements
@@ -138,8 +138,8 @@ module _ (n : ℕ) (o p : Reader Stmt) (s : Symbol Stmt) (inner : IsPositive n �
   unfolding r.entry r.decl_entry r.stmt_entry g.entry
   entry i =
       declared _ _ (by_second first_words begins_decl (seq (decl (pred n)) (λ xs. seq (mark m.Semicolon) (λ _. pure xs) refl) refl) (kept _ (inner i))
-        (follows_seq (decl_follows (pred n))) (follows_seq (inner_follows i)) (λ t c h. inl (decl_name (pred n) t c h)) (λ t c h. inl (inner_name i t c h))
-        words_decl second_decl (λ a. first_no_decl first_stmt a refl) (λ a. second_no_decl first_stmt seconds a refl refl)) refl refl
+      (follows_seq (decl_follows (pred n))) (follows_seq (inner_follows i)) (λ t c h. inl (decl_name (pred n) t c h)) (λ t c h. inl (inner_name i t c h))
+      words_decl second_decl (λ a. first_no_decl first_stmt a refl) (λ a. second_no_decl first_stmt seconds a refl refl)) refl refl
 
   pub block : Reads n (r.block (pred n) o) (r.block n p) (g.block n s) (at_mark m.OpenBrace) [] false
   unfolding r.block r.entries g.block g.entries
@@ -179,7 +179,7 @@ module _ (n : ℕ) (o p : Reader Stmt) (s : Symbol Stmt) (inner : IsPositive n �
   unfolding r.stmt_line r.word_stmt g.stmt_line
   stmt_line =
       declared _ _ (either block_stmt (either empty (either (plain n)
-        (either (print n) (either choice (either loop (either for_loop (either parallel (either parallel_for (either (spawned n) (returned n) refl) refl) refl) refl) refl) refl) refl) refl) refl) refl) refl refl
+      (either (print n) (either choice (either loop (either for_loop (either parallel (either parallel_for (either (spawned n) (returned n) refl) refl) refl) refl) refl) refl) refl) refl) refl) refl) refl refl
 
   line_follows : Follows seconds (g.stmt_line n s)
   unfolding g.stmt_line g.plain

@@ -120,8 +120,8 @@ module _ (n : ℕ) (expr unary : Symbol Expr) where
   unfoldable pub order : Symbol Expr
   order =
       level (
-        operator m.Less binary_op.Lt or operator m.LessEqual binary_op.Le or operator m.Greater binary_op.Gt
-          or operator m.GreaterEqual binary_op.Ge
+      operator m.Less binary_op.Lt or operator m.LessEqual binary_op.Le or operator m.Greater binary_op.Gt
+      or operator m.GreaterEqual binary_op.Ge
       )
       sum
 

@@ -36,8 +36,8 @@ first_simple = first_count ++ at_mark m.Star ++ first_root
 abbrev pub first_stmt : Kinds
 first_stmt =
     kinds (
-      k.Mark m.OpenBrace ∷ k.Mark m.Semicolon ∷ k.Word Cout ∷ k.Word If ∷ k.Word While ∷ k.Word For ∷ k.Word Par ∷ k.Word Parfor ∷ k.Word Spawn
-        ∷ k.Word Return ∷ []
+    k.Mark m.OpenBrace ∷ k.Mark m.Semicolon ∷ k.Word Cout ∷ k.Word If ∷ k.Word While ∷ k.Word For ∷ k.Word Par ∷ k.Word Parfor ∷ k.Word Spawn
+    ∷ k.Word Return ∷ []
     )
     ++ first_simple
 

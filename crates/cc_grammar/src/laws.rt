@@ -9,5 +9,4 @@ ghost use Rattle.cc_grammar.specs.Program.{Spells};
 #[tactic(auto, using(crate::proofs::Top::one))]
 pub fn one_tree()
     ensures { (tokens : Lexemes) (p q : Program) → Spells tokens p → Spells tokens q → p ≡ q }
-{
-}
+{}
