@@ -1,5 +1,6 @@
 -- What the front end's program means: its parts as terms and statements of the core language.
 use Rattle.std.specs.Prelude.{List, [], ◌∷◌, map}
+use Rattle.cc_ops.specs.Shapes.{shape_of}
 use Rattle.cc_ops.specs.Values.{Constant, VoidC, IntC, NullC}
 use Rattle.cc_core.specs.declared.expression.Constant.{Constant as TextConstant}
 use Rattle.cc_core.specs.declared.expression.Constant.TheVariants as constant
@@ -11,6 +12,9 @@ use Rattle.cc_core.specs.declared.expression.PrintPart.{PrintPart as TextPart}
 use Rattle.cc_core.specs.declared.expression.PrintPart.TheVariants as part
 use Rattle.cc_core.specs.declared.statement.Statement.{Statement, fold-Statement}
 use Rattle.cc_core.specs.declared.statement.Statement.TheOpen as s
+use Rattle.cc_core.specs.declared.program.Function as rust_function
+use Rattle.cc_core.specs.declared.program.Program as rust_program
+use Rattle.cc_core.specs.Core as core
 use Rattle.cc_core.specs.Core.{How, Alone, On, Remote, PrintPart, Number, Text, Endl, Term, Push, This, Variable, Member, Index, At}
 use Rattle.cc_core.specs.Core.{Load, Unary, Binary, And, Or, New, NewObject, Call, Terms, NoTerms, MoreTerms, Stmt, Empty, AtLine}
 use Rattle.cc_core.specs.Core.{Make, Set, Build, Assign, Drop, Print, If, IfElse, While, For, Par, ParFor, Spawn, Return, Block}
@@ -87,3 +91,10 @@ stmt_of = fold-Statement Stmt stmt_with
 
 abbrev pub stmts_of : List Statement → Stmts
 stmts_of body = stmts (map stmt_of body)
+
+abbrev pub function_of : rust_function.Function → core.Function
+function_of f = record { shape = f.shape; default = constant_of f.default; body = stmts_of f.body }
+
+-- the program that the front end's program is
+abbrev pub program_of : rust_program.Program → core.Program
+program_of p = record { functions = map function_of p.functions; classes = map shape_of p.classes; main = p.main }

@@ -3,7 +3,9 @@
 
 mod expression;
 pub mod laws;
+mod program;
 mod statement;
 
 pub use expression::{Constant, Expression, How, PrintPart};
+pub use program::{Function, Program};
 pub use statement::Statement;
