@@ -1,0 +1,15 @@
+//! Reading statements: blocks, choices, loops, and what runs in parallel.
+//!
+//! Each function that reads answers what the reader of its symbol does, which `cc_grammar` defines; so a contract is one line,
+//! and that it reads exactly its symbol is proved there. A function that reads takes time in proportion to the tokens that it
+//! takes, and recurs in nesting alone: the statements of a block are read one after the other.
+#![tactic(auto)]
+
+mod headers;
+mod statements;
+#[cfg(test)]
+mod tests;
+
+pub use cc_simple_statements::expr_semicolon;
+pub use headers::int_name;
+pub use statements::{block_at, statement};
