@@ -1,0 +1,17 @@
+//! The parser: the program that the tokens of a text spell, or the place at which they stop being the front of one.
+//!
+//! Each function that reads answers what the reader of its symbol does, which `cc_grammar` defines; that a reader reads exactly
+//! its symbol is proved there. Reading recurs in nesting alone.
+#![tactic(auto)]
+
+mod fault;
+mod functions;
+mod items;
+mod members;
+mod nodes;
+mod parser;
+#[cfg(test)]
+mod tests;
+
+pub use fault::ParseFault;
+pub use parser::{MAX_LEVELS, line_at, parse};
