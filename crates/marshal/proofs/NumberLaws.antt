@@ -1,17 +1,13 @@
 -- Laws of numbers in bytes.
-use Rattle.std.proofs.Common.{◌≡◌, ℕ, zero, suc, ◌-◌, ◌<◌, ◌^◌, List, [], ◌∷◌, ◌++◌, length, get_or, replicate, ℤ, refl, sym, ◌∙◌, ap, arith}
-use Rattle.std.specs.Int.{Width, w8, w16, w32, w64, byte_len, bytes_high_first, to_be_bytes, from_be_bytes, cast_unsigned, cast_signed}
+use Rattle.std.proofs.Common.{◌≡◌, ℕ, zero, suc, ◌-◌, ◌<◌, ◌^◌, List, [], ◌∷◌, ◌++◌, length, replicate, ℤ, refl, sym, ◌∙◌, ap, subst, arith}
+use Rattle.std.specs.Int.{Width, w8, w16, w32, w64, byte_len, byte_at, bytes_high_first, to_be_bytes, from_be_bytes, cast_unsigned, cast_signed}
 use Rattle.std.proofs.lemmas.List.{length-append, length-replicate}
 use Rattle.std.proofs.lemmas.Nat.{be_bytes_2, be_bytes_4, be_bytes_8, from_be_bytes-to_be_bytes_2, from_be_bytes-to_be_bytes_4, from_be_bytes-to_be_bytes_8}
 use Rattle.std.proofs.lemmas.Int.{to_z-of_z, of_z-to_z}
 use Rattle.std.proofs.Math.Facts.{Fits-of_z, Fits-of_lt, sfits_to_z}
 use mir.Val.{bits}
-use Rattle.marshal.specs.Spellings.{IsNumber, IsSignedNumber}
+use Rattle.marshal.specs.Spellings.{IsBytes, AnyBytes, IsNumber, IsSignedNumber}
 use Rattle.marshal.proofs.Laws.{same_cut}
-
--- each is a byte
-abbrev pub IsBytes : List ℕ → Type 0
-IsBytes bytes = (i : ℕ) → get_or bytes i 0 < 256
 
 pub IsBytes-tail : (b : ℕ) (bytes : List ℕ) → IsBytes (b ∷ bytes) → IsBytes bytes
 IsBytes-tail b bytes all i = all (suc i)
@@ -35,11 +31,6 @@ IsBytes-zeros zero i = omega arith
 IsBytes-zeros (suc n) zero = omega arith
 IsBytes-zeros (suc n) (suc i) = IsBytes-zeros n i
 
--- any bytes, so many
-pub record AnyBytes (n : ℕ) (bytes : List ℕ) : Type 0 where
-  pub long : length bytes ≡ n
-  pub all : IsBytes bytes
-
 long_high_first : (k n : ℕ) → length (bytes_high_first k n) ≡ k
 long_high_first zero n = refl
 long_high_first (suc k) n = ap suc (long_high_first k n)
@@ -49,6 +40,19 @@ length-number w n bytes number = ap length number.big_endian ∙ long_high_first
 
 pub length-signed : (n : ℤ) (bytes : List ℕ) → IsSignedNumber n bytes → length bytes ≡ 8
 length-signed n bytes number = ap length number.big_endian
+
+byte_small : (k n : ℕ) → byte_at k n < 256
+byte_small zero n = omega arith
+byte_small (suc k) n = omega arith
+
+IsBytes-high_first : (k n : ℕ) → IsBytes (bytes_high_first k n)
+IsBytes-high_first zero n i = omega arith
+IsBytes-high_first (suc k) n zero = byte_small k n
+IsBytes-high_first (suc k) n (suc i) = IsBytes-high_first k n i
+
+-- a number has as many bytes as its width
+pub any_number : (w : Width) (n : ℕ) (bytes : List ℕ) → IsNumber w n bytes → AnyBytes (byte_len w) bytes
+any_number w n bytes number = record { long = length-number w n bytes number; all = subst IsBytes (sym number.big_endian) (IsBytes-high_first (byte_len w) n) }
 
 -- a number of that width can be read from its bytes
 abbrev pub ReadsBack : Width → Type 0

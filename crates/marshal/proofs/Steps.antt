@@ -5,9 +5,9 @@ use Rattle.std.proofs.lemmas.List.{length-take-le, take-append-drop, append_asso
 use Rattle.std.proofs.lemmas.Int.{to_z-of_z}
 use mir.Val.{Fits}
 use Rattle.global_ptr.specs.declared.values.Addr.{Addr}
-use Rattle.marshal.specs.Spellings.{IsByte, IsNumber, IsSignedNumber, ◌▸◌, Takes, BeginsWith, IsPartial, Puts}
+use Rattle.marshal.specs.Spellings.{IsBytes, AnyBytes, IsByte, IsNumber, IsSignedNumber, ◌▸◌, Takes, BeginsWith, IsPartial, Puts}
 use Rattle.marshal.specs.Values.{SpellsAddress, IsValue}
-use Rattle.marshal.proofs.NumberLaws.{IsBytes, IsBytes-tail, IsBytes-front, AnyBytes, number_of_2, number_of_4, signed_of_8}
+use Rattle.marshal.proofs.NumberLaws.{IsBytes-tail, IsBytes-front, number_of_2, number_of_4, signed_of_8}
 use Rattle.marshal.proofs.ValueLaws.{length-address}
 
 pub IsBytes-of : (bytes : List ℕ) → ((i : ℕ) → Fits w8 (get_or bytes i 0)) → IsBytes bytes

@@ -7,10 +7,10 @@ use Rattle.global_ptr.specs.declared.values.Value.{Value}
 use Rattle.global_ptr.specs.declared.values.Value.TheVariants.{Void, Int, Null, Ptr}
 use Rattle.marshal.specs.declared.read.ValueFault.{ValueFault}
 use Rattle.marshal.specs.declared.read.ValueFault.TheVariants.{Short, BadTag}
-use Rattle.marshal.specs.Spellings.{IsByte, IsNumber, IsSignedNumber, ◌▸◌, BeginsWith, IsPartial, IsWrongAt, IsPrefixFree}
+use Rattle.marshal.specs.Spellings.{IsBytes, AnyBytes, IsByte, IsNumber, IsSignedNumber, ◌▸◌, BeginsWith, IsPartial, IsWrongAt, IsPrefixFree}
 use Rattle.marshal.specs.Values.{SpellsAddress, SpellsValue, IsValue, Reads}
 use Rattle.marshal.proofs.Laws.{same_cut, one_wrong, whole_is_not_partial, wrong_is_not_partial, wrong_is_not_whole}
-use Rattle.marshal.proofs.NumberLaws.{IsBytes, IsBytes-front, IsBytes-back, AnyBytes, filled, length-number, reads_back_32, one_number, one_signed, number_of_4, signed_of_8}
+use Rattle.marshal.proofs.NumberLaws.{IsBytes-front, IsBytes-back, filled, length-number, length-signed, reads_back_32, one_number, one_signed, number_of_4, signed_of_8}
 
 -- any bytes are cut anywhere
 pub cut_any : (m n : ℕ) (bytes : List ℕ) → AnyBytes (m + n) bytes → (AnyBytes m ▸ AnyBytes n) bytes
@@ -57,6 +57,13 @@ length-follows P Q m n p q bytes f =
 
 pub length-address : (a : Addr) (bytes : List ℕ) → SpellsAddress a bytes → length bytes ≡ 12
 length-address a = length-follows _ _ 4 8 (length-number w32 a.processor) (length-follows _ _ 4 4 (length-number w32 a.object) (length-number w32 a.offset))
+
+-- a value has 1 to 13 bytes
+pub length-value : (v : Value) (bytes : List ℕ) → SpellsValue v bytes → (0 < length bytes) × (length bytes ≤ 13)
+length-value Void bytes p = let long : length bytes ≡ 1 = ap length p in (omega arith, omega arith)
+length-value (Int n) bytes p = let long = length-follows _ _ 1 8 (λ b e. ap length e) (length-signed n) bytes p in (omega arith, omega arith)
+length-value Null bytes p = let long : length bytes ≡ 1 = ap length p in (omega arith, omega arith)
+length-value (Ptr a) bytes p = let long = length-follows _ _ 1 12 (λ b e. ap length e) (length-address a) bytes p in (omega arith, omega arith)
 
 -- what one_number says, of any set of spellings of values of a type
 abbrev pub IsOne : {A : Type 0} → (A → List ℕ → Type 0) → (A → List ℕ → Type 0) → Type 0
@@ -183,14 +190,14 @@ reads_value bytes (Ok found) r v n b =
     let same : ◌≡◌ {A = Value × ℕ} (found.0, found.1) (v, n) = cc (one.0, long) in
     ap Ok same
 reads_value bytes (Err Short) r v n b = absurd (whole_is_not_partial IsValue IsValue-free bytes n (begins_some v bytes n b) r)
-reads_value bytes (Err (BadTag at)) r v n b = absurd (wrong_is_not_whole IsValue IsValue-free bytes at n r (begins_some v bytes n b))
+reads_value bytes (Err (BadTag at)) r v n b = absurd (wrong_is_not_whole IsValue IsValue-free bytes at n r.1 (begins_some v bytes n b))
 
 pub reads_short : (bytes : List ℕ) (answer : Result (Value × ℕ) ValueFault) → Reads bytes answer → IsPartial IsValue bytes → answer ≡ Err Short
 reads_short bytes (Ok found) r p = absurd (whole_is_not_partial IsValue IsValue-free bytes found.1 (begins_some found.0 bytes found.1 r) p)
 reads_short bytes (Err Short) r p = refl
-reads_short bytes (Err (BadTag at)) r p = absurd (wrong_is_not_partial IsValue bytes at r p)
+reads_short bytes (Err (BadTag at)) r p = absurd (wrong_is_not_partial IsValue bytes at r.1 p)
 
 pub reads_wrong : (bytes : List ℕ) (answer : Result (Value × ℕ) ValueFault) → Reads bytes answer → (at : ℕ) → IsWrongAt IsValue bytes at → answer ≡ Err (BadTag at)
 reads_wrong bytes (Ok found) r at w = absurd (wrong_is_not_whole IsValue IsValue-free bytes at found.1 w (begins_some found.0 bytes found.1 r))
 reads_wrong bytes (Err Short) r at w = absurd (wrong_is_not_partial IsValue bytes at w r)
-reads_wrong bytes (Err (BadTag place)) r at w = ap (λ k. Err (BadTag k)) (one_wrong IsValue bytes place at r w)
+reads_wrong bytes (Err (BadTag place)) r at w = ap (λ k. Err (BadTag k)) (one_wrong IsValue bytes place at r.1 w)

@@ -1,7 +1,16 @@
 -- Sets of byte lists, as all that spells a kind of value, and how other bytes stand to such a set.
-use Rattle.std.specs.Prelude.{◌≡◌, ℕ, ◌<◌, ◌^◌, List, [], ◌∷◌, ◌++◌, length, ℤ, FitsSigned}
+use Rattle.std.specs.Prelude.{◌≡◌, ℕ, ◌<◌, ◌^◌, List, [], ◌∷◌, ◌++◌, length, slice_index, ℤ, FitsSigned}
 use Rattle.std.specs.Int.{Width, w64, to_be_bytes, cast_unsigned}
 use mir.Val.{bits}
+
+-- each is a byte
+abbrev pub IsBytes : List ℕ → Type 0
+IsBytes bytes = (i : ℕ) → slice_index bytes i < 256
+
+-- any bytes, so many
+pub record AnyBytes (n : ℕ) (bytes : List ℕ) : Type 0 where
+  pub long : length bytes ≡ n
+  pub all : IsBytes bytes
 
 -- the one byte
 abbrev pub IsByte : ℕ → List ℕ → Type 0

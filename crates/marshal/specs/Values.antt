@@ -1,5 +1,5 @@
 -- How a value is spelled in bytes. This project's own.
-use Rattle.std.specs.Prelude.{ℕ, List, Result, Ok, Err}
+use Rattle.std.specs.Prelude.{◌≡◌, ℕ, List, Result, Ok, Err}
 use Rattle.std.specs.Int.{w32}
 use Rattle.global_ptr.specs.declared.values.Addr.{Addr}
 use Rattle.global_ptr.specs.declared.values.Value.{Value}
@@ -27,4 +27,4 @@ IsValue bytes = (value : Value) × SpellsValue value bytes
 abbrev pub Reads : List ℕ → Result (Value × ℕ) ValueFault → Type 0
 Reads bytes (Ok found) = BeginsWith (SpellsValue found.0) bytes found.1
 Reads bytes (Err Short) = IsPartial IsValue bytes
-Reads bytes (Err (BadTag at)) = IsWrongAt IsValue bytes at
+Reads bytes (Err (BadTag at)) = (at ≡ 0) × IsWrongAt IsValue bytes at

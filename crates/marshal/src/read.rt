@@ -25,6 +25,7 @@ pub fn take_value(bytes: &[u8]) -> Result<(Value, usize), ValueFault>
     ensures value { (value : Value) (n : ℕ) → BeginsWith (SpellsValue value) bytes.now n → result ≡ Ok (value, n) }
     ensures short { IsErrOf result ValueFault.Short ↔ IsPartial IsValue bytes.now }
     ensures bad_tag { (at : ℕ) → IsErrOf result (ValueFault.BadTag at) ↔ IsWrongAt IsValue bytes.now at }
+    ensures place { (at : ℕ) → IsErrOf result (ValueFault.BadTag at) → at ≡ 0 }
 {
     read_value(bytes)
 }

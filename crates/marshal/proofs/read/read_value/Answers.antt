@@ -1,5 +1,5 @@
 -- Each answer is what the bytes, a tag and a rest, say.
-use Rattle.std.proofs.Common.{◌<◌, sym, subst, rules, arith}
+use Rattle.std.proofs.Common.{◌<◌, refl, sym, subst, rules, arith}
 use Rattle.std.specs.Int.{w64}
 use Rattle.std.proofs.lemmas.Int.{to_z-of_z}
 use Rattle.std.proofs.lemmas.List.{nil_from_length}
@@ -37,4 +37,4 @@ returns-in-None-read_address c =
 pub returns-in_default-tag : goal.returns-in_default-tag
 returns-in_default-tag c =
     let above : 3 < c.in-Some.tag.now = omega arith in
-    subst (λ bytes. IsWrongAt IsValue bytes 0) (sym c.in-Some.ensures.cases.0) (no_tag_is_wrong c.in-Some.tag.now c.in-Some.rest.now above)
+    (refl, subst (λ bytes. IsWrongAt IsValue bytes 0) (sym c.in-Some.ensures.cases.0) (no_tag_is_wrong c.in-Some.tag.now c.in-Some.rest.now above))

@@ -11,4 +11,7 @@ pub returns-clause-short : goal.returns-clause-short
 returns-clause-short c = (λ is. subst (Reads c.args.bytes.now) is c.read_value.ensures, reads_short _ _ c.read_value.ensures)
 
 pub returns-clause-bad_tag : goal.returns-clause-bad_tag
-returns-clause-bad_tag c at = (λ is. subst (Reads c.args.bytes.now) is c.read_value.ensures, reads_wrong _ _ c.read_value.ensures at)
+returns-clause-bad_tag c at = (λ is. (subst (Reads c.args.bytes.now) is c.read_value.ensures).1, reads_wrong _ _ c.read_value.ensures at)
+
+pub returns-clause-place : goal.returns-clause-place
+returns-clause-place c at is = (subst (Reads c.args.bytes.now) is c.read_value.ensures).0

@@ -1,0 +1,14 @@
+pub mod DecodingLaws
+pub mod EncodingSteps
+pub mod Leads
+pub mod LengthSteps
+pub mod ListingLaws
+pub mod MessageLaws
+pub mod MessageLengths
+pub mod PieceLaws
+pub mod ReadingSteps
+pub mod RefusalLaws
+pub mod RequestLaws
+pub mod ShapeLaws
+pub mod SpellingLaws
+pub mod StreamLaws
