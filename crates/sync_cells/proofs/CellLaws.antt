@@ -8,8 +8,8 @@ use Rattle.std.specs.Option.{unwrap_or}
 use Rattle.global_ptr.specs.declared.values.Spot.{Spot}
 use Rattle.global_ptr.specs.declared.values.Value.{Value}
 use Rattle.global_ptr.specs.declared.values.Waiter.{Waiter}
-use Rattle.sync_cells.specs.declared.cell.Cell.{Cell}
-use Rattle.sync_cells.specs.declared.cell.Cell.TheVariants.{Full}
+use Rattle.cc_ops.specs.declared.cell.Cell.{Cell}
+use Rattle.cc_ops.specs.declared.cell.Cell.TheVariants.{Full}
 use Rattle.sync_cells.specs.Cells.{Slot, Cells, slot_at, cell_of, waiters_of, cell_at, waiters_at, change_item, change_slot, assigned, unawaited, with_value, with_waiter, without_waiters, after_make, after_write, after_park, after_wake}
 use Rattle.sync_cells.proofs.ChangedLists.{get_changed, get_unchanged}
 

@@ -7,8 +7,8 @@ use Rattle.std.proofs.lemmas.Bool.{lt-ltb, le-ltb, cases_lt, cases_eq}
 use Rattle.global_ptr.specs.declared.values.Spot.{Spot}
 use Rattle.global_ptr.specs.declared.values.Value.{Value}
 use Rattle.global_ptr.specs.declared.values.Waiter.{Waiter}
-use Rattle.sync_cells.specs.declared.cell.Cell.{Cell}
-use Rattle.sync_cells.specs.declared.cell.Cell.TheVariants.{Empty}
+use Rattle.cc_ops.specs.declared.cell.Cell.{Cell}
+use Rattle.cc_ops.specs.declared.cell.Cell.TheVariants.{Empty}
 use Rattle.sync_cells.specs.declared.layout.Extent.{Extent}
 use Rattle.sync_cells.specs.declared.layout.TheConstants.{MOST_SLOTS}
 use Rattle.sync_cells.specs.Cells.{Slot, Cells, slot_at, cell_at, cell_of, waiters_at, waiters_of, change_item, change_slot, unawaited, assigned, after_make, after_write}

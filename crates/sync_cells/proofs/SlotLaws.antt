@@ -4,7 +4,7 @@ use Rattle.std.specs.Prelude.{slice_get, option_map, option_and_then}
 use Rattle.std.proofs.lemmas.List.{drop-append-le, take-append-le, drop_at, take_all, length-drop}
 use Rattle.std.proofs.lemmas.Bool.{lt-ltb, le-ltb, cases_lt}
 use Rattle.global_ptr.specs.declared.values.Waiter.{Waiter}
-use Rattle.sync_cells.specs.declared.cell.Cell.{Cell}
+use Rattle.cc_ops.specs.declared.cell.Cell.{Cell}
 use Rattle.sync_cells.specs.declared.layout.Extent.{Extent}
 use Rattle.sync_cells.specs.Cells.{Slot, change_item, unawaited}
 use Rattle.sync_cells.specs.Layout.{slots, object, Tiles, place_in}

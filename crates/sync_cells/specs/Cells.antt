@@ -3,8 +3,8 @@ use Rattle.std.specs.Prelude.{ℕ, zero, suc, ◌+◌, List, [], ◌∷◌, ◌+
 use Rattle.global_ptr.specs.declared.values.Spot.{Spot}
 use Rattle.global_ptr.specs.declared.values.Value.{Value}
 use Rattle.global_ptr.specs.declared.values.Waiter.{Waiter}
-use Rattle.sync_cells.specs.declared.cell.Cell.{Cell}
-use Rattle.sync_cells.specs.declared.cell.Cell.TheVariants.{Plain, Empty, Full}
+use Rattle.cc_ops.specs.declared.cell.Cell.{Cell}
+use Rattle.cc_ops.specs.declared.cell.Cell.TheVariants.{Plain, Empty, Full}
 use Rattle.sync_cells.specs.declared.cell.Found.{Found}
 use Rattle.sync_cells.specs.declared.cell.Found.TheVariants.{Value as TheValue, Empty as NotYet, OutOfObject as NotFound}
 use Rattle.sync_cells.specs.declared.cell.Wrote.{Wrote}

@@ -6,7 +6,7 @@ use Rattle.std.specs.declared.hash.FoldHasher.{FoldHasher}
 use Rattle.std.specs.declared.hash.BuildHasherDefault.{BuildHasherDefault}
 use Rattle.global_ptr.specs.declared.values.Spot.{Spot}
 use Rattle.global_ptr.specs.declared.values.Waiter.{Waiter}
-use Rattle.sync_cells.specs.declared.cell.Cell.{Cell}
+use Rattle.cc_ops.specs.declared.cell.Cell.{Cell}
 use Rattle.sync_cells.specs.declared.layout.Extent.{Extent}
 use Rattle.sync_cells.specs.declared.layout.TheConstants.{MOST_SLOTS}
 use Rattle.sync_cells.specs.Cells.{Slot, Cells}

@@ -1,49 +1,13 @@
 ghost use Rattle.std.specs.Prelude.{◌≡◌};
 ghost use Rattle.sync_cells.specs.Cells.{assigned, found, wrote};
 
+use cc_ops::Cell;
 use global_ptr::Value;
 use std::alloc::AllocError;
 use std::mem::size_of;
 
-/// A place of an object, which holds a value.
-#[derive(Clone, Copy, Debug, PartialEq, Eq)]
-pub enum Cell {
-    /// A cell of a plain type, which may be assigned again and again.
-    Plain(Value),
-    /// A cell of a sync type that is not assigned yet. Who reads it waits.
-    Empty,
-    /// A cell of a sync type that was assigned, which it is once.
-    Full(Value),
-}
-
 // A million cells are to fit into 32 MiB.
 const _: () = prove!(size_of::<Cell>() <= 32);
-
-impl Cell {
-    /// What a read of the cell finds.
-    pub(crate) fn found(self) -> Found
-        ensures { result ≡ found (Some self) }
-    {
-        match self {
-            Cell::Plain(value) => Found::Value(value),
-            Cell::Empty => Found::Empty,
-            Cell::Full(value) => Found::Value(value),
-        }
-    }
-
-    /// Gives the cell a value, unless it was assigned before.
-    pub(crate) fn assign(&mut self, value: Value) -> Wrote
-        ensures answer { result ≡ wrote (Some self.old) }
-        ensures cell { self.new ≡ assigned value self.old }
-    {
-        *self = match self {
-            Cell::Plain(_) => Cell::Plain(value),
-            Cell::Empty => Cell::Full(value),
-            Cell::Full(_) => return Wrote::Twice,
-        };
-        Wrote::Done
-    }
-}
 
 /// What a read finds.
 #[derive(Clone, Copy, Debug, PartialEq, Eq)]
@@ -65,6 +29,30 @@ pub enum Wrote {
     Twice,
     /// There is no such cell.
     OutOfObject,
+}
+
+/// What a read of a cell finds.
+pub(crate) fn found_in(cell: Cell) -> Found
+    ensures { result ≡ found (Some cell) }
+{
+    match cell {
+        Cell::Plain(value) => Found::Value(value),
+        Cell::Empty => Found::Empty,
+        Cell::Full(value) => Found::Value(value),
+    }
+}
+
+/// Gives a cell a value, unless it was assigned before.
+pub(crate) fn assign(cell: &mut Cell, value: Value) -> Wrote
+    ensures answer { result ≡ wrote (Some cell.old) }
+    ensures cell { cell.new ≡ assigned value cell.old }
+{
+    *cell = match cell {
+        Cell::Plain(_) => Cell::Plain(value),
+        Cell::Empty => Cell::Full(value),
+        Cell::Full(_) => return Wrote::Twice,
+    };
+    Wrote::Done
 }
 
 /// Why no object was made.

@@ -6,7 +6,8 @@ mod layout;
 mod queues;
 mod store;
 
-pub use cell::{Cell, Found, StoreFault, Wrote};
+pub use cc_ops::Cell;
+pub use cell::{Found, StoreFault, Wrote};
 pub use layout::MOST_SLOTS;
 pub use store::Store;
 

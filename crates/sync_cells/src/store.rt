@@ -1,9 +1,10 @@
 ghost use Rattle.std.specs.Prelude.{◌≡◌, ◌≢◌, ◌+◌, ◌≤◌, ◌<◌, ◌^◌, [], ◌++◌, length, replicate, IfOk, IfErr, OnOk, OnErr};
 ghost use Rattle.sync_cells.specs.Cells.{cell_at, waiters_at, found, wrote, after_make, after_write, after_park, after_wake};
 
-use crate::cell::{Cell, Found, StoreFault, Wrote};
+use crate::cell::{Found, StoreFault, Wrote, assign, found_in};
 use crate::layout::{Extent, MOST_SLOTS, find, prepare};
 use crate::queues::{Queues, add, count, wake};
+use cc_ops::Cell;
 use global_ptr::{Ready, Spot, Value, Waiter};
 use std::alloc::{AllocError, Global};
 use std::collections::HashMap;
@@ -27,9 +28,9 @@ impl Model for Store {
 
     ghost Value = { Cells };
 
-    ghost view = { λ a. shown a.cells.items a.objects.items (queue a.waiting) };
+    ghost view = { λ store. shown store.cells.items store.objects.items (queue store.waiting) };
 
-    ghost invariant = { λ a. IsLaidOut a.cells.items a.objects.items (queue a.waiting) };
+    ghost invariant = { λ store. IsLaidOut store.cells.items store.objects.items (queue store.waiting) };
 }
 
 impl Store {
@@ -62,7 +63,7 @@ impl Store {
         ensures made { OnOk result (self.new ≡ after_make self.old (replicate count cell)) }
         ensures full { MOST_SLOTS < self.old.made + count → result ≡ Err (StoreFault.Full self.old.made count) }
         ensures memory { self.old.made + count ≤ MOST_SLOTS → IfErr result (λ fault. fault ≡ StoreFault.Memory) }
-        ensures refused { OnErr result (self.new ≡ self.old) }
+        ensures err { OnErr result (self.new ≡ self.old) }
     {
         let made = self.cells.len();
         let extent = prepare(&mut self.objects, made, count)?;
@@ -82,7 +83,7 @@ impl Store {
         ensures made { OnOk result (self.new ≡ after_make self.old cells.now) }
         ensures full { MOST_SLOTS < self.old.made + length cells.now → result ≡ Err (StoreFault.Full self.old.made (length cells.now)) }
         ensures memory { self.old.made + length cells.now ≤ MOST_SLOTS → IfErr result (λ fault. fault ≡ StoreFault.Memory) }
-        ensures refused { OnErr result (self.new ≡ self.old) }
+        ensures err { OnErr result (self.new ≡ self.old) }
     {
         let made = self.cells.len();
         let extent = prepare(&mut self.objects, made, cells.len() as u32)?;
@@ -97,7 +98,7 @@ impl Store {
         ensures { result ≡ found (cell_at self.now at) }
     {
         match find(&self.objects, at) {
-            Some(place) => self.cells[place].found(),
+            Some(place) => found_in(self.cells[place]),
             None => Found::OutOfObject,
         }
     }
@@ -109,12 +110,13 @@ impl Store {
         ensures answer { result ≡ wrote (cell_at self.old at) }
         ensures store { self.new ≡ after_write self.old at value }
         ensures refused { result ≢ Wrote.Done → self.new ≡ self.old }
+        ensures once { (p : Spot) (v : Value) → cell_at self.old p ≡ Some (Cell.Full v) → cell_at self.new p ≡ Some (Cell.Full v) }
     {
         let Some(place) = find(&self.objects, at) else {
             return Wrote::OutOfObject;
         };
         let cell = &mut self.cells[place];
-        cell.assign(value)
+        assign(cell, value)
     }
 
     /// Lets a waiter wait for an empty cell, behind those that wait for it already. Want of memory leaves the store as it was.

@@ -13,7 +13,7 @@ index-requires c =
 pub returns-in-Some : goal.returns-in-Some
 returns-in-Some c =
     let there : place_of c.self.inside.objects.items c.args.at ≡ Some c.in-Some.place = cc (c.deref.ensures.value) in
-    c.found.ensures ∙ ap found (sym (cell_there _ _ _ _ _ _ _ c.self.view_is c.self.invariant.tiled there c.index.ensures))
+    c.found_in.ensures ∙ ap found (sym (cell_there _ _ _ _ _ _ _ c.self.view_is c.self.invariant.tiled there c.index.ensures))
 
 pub returns-in-None : goal.returns-in-None
 returns-in-None c =

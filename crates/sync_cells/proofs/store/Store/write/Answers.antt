@@ -1,8 +1,9 @@
 use Rattle.std.proofs.Common.{◌≡◌, set, ap, sym, ◌∙◌, arith, Some, None, refl}
 use Rattle.std.proofs.lemmas.Option.{slice_get_read}
-use Rattle.sync_cells.specs.Cells.{wrote, after_write}
+use Rattle.sync_cells.specs.Cells.{wrote, cell_at, after_write}
 use Rattle.sync_cells.specs.Layout.{place_of, queue, shown}
 use Rattle.sync_cells.proofs.ShownLaws.{place_within, cell_there, cell_nowhere, unchanged_nowhere, shown-write}
+use Rattle.sync_cells.proofs.CellLaws.{full_stays}
 use Rattle.sync_cells.proofs.store.Store.write.Goals as goal
 
 pub returns-in_default-clause-answer : goal.returns-in_default-clause-answer
@@ -34,3 +35,7 @@ returns-clause-store c =
     ap (λ cell. shown (set c.self.inside.cells.items c.in-Some.place cell) c.self.inside.objects.items (queue c.self.inside.waiting)) c.assign.ensures.cell
     ∙ shown-write _ _ _ _ _ _ c.args.value c.self.invariant.tiled there read
     ∙ ap (λ s. after_write s c.args.at c.args.value) c.self.view_is
+
+pub returns-clause-once : goal.returns-clause-once
+returns-clause-once c = λ p v full.
+    ap (λ s. cell_at s p) (returns-clause-store c) ∙ full_stays c.args.self.now c.args.at c.args.value p v full

@@ -1,0 +1,4 @@
+pub mod LiveThread
+pub mod Numbers
+pub mod Lends
+pub mod Table
