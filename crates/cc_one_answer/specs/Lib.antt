@@ -1,0 +1,5 @@
+pub mod Answer
+pub mod Apart
+pub mod Sorts
+pub mod Determinate
+pub mod Owned
