@@ -1,10 +1,10 @@
 mod AnswerLaws
 mod Codes
-mod GrammarLaws
+pub mod FormLaws
 mod Maps
 mod Outcomes
-pub mod ReadingLaws
 mod Runs
+mod SizeLaws
 mod SourceLaws
 mod Statements
 mod Sums

@@ -1,12 +1,8 @@
--- What the reader of a text's tokens says of the text.
-use Rattle.std.proofs.Common.{◌≡◌, ℕ, suc, ◌+◌, ◌<◌, ◌≤◌, List, [], ◌∷◌, length, length-append, append-nil, sym, ap, ◌∙◌, arith}
-use Rattle.std.specs.Prelude.{ℤ}
-use Rattle.std.proofs.lemmas.List.{length-map}
-use Rattle.cc_lexer.specs.declared.token.Token.{Token}
-use Rattle.cc_lexer.specs.Cut.{Cut}
-use Rattle.cc_lexer.specs.Lexemes.{lexemes}
-use Rattle.cc_lexer.proofs.Spans.{cut_count}
-use Rattle.ccpp_top.specs.declared.piece.Fixed.TheVariants.{Semicolon, CloseBrace}
+-- What is said of a text by the calls that cut it, read it and test its tree.
+use Rattle.std.proofs.Common.{◌≡◌, ◌≢◌, ℕ, suc, ◌<◌, ◌≤◌, Bool, true, false, List, [], ◌∷◌, refl, sym, ap, ◌∙◌, subst, Some, None, arith}
+use Rattle.std.specs.Prelude.{Option, nat_le, if◌then◌else◌}
+use Rattle.std.proofs.lemmas.Bool.{leb-true}
+use Rattle.cc_tree.specs.declared.declarations.Program.{Program}
 use Rattle.ccpp_top.specs.declared.early.Early.{Early}
 use Rattle.ccpp_top.specs.declared.early.Statement.{Statement}
 use Rattle.ccpp_top.specs.declared.early.StatementKind.{StatementKind}
@@ -15,99 +11,75 @@ use Rattle.ccpp_top.specs.declared.early.Item.{Item}
 use Rattle.ccpp_top.specs.declared.early.Item.TheVariants as i
 use Rattle.ccpp_top.specs.declared.early.Sum.{Sum}
 use Rattle.ccpp_top.specs.declared.early.Summand.{Summand}
-use Rattle.ccpp_top.specs.declared.early.Product.{Product}
-use Rattle.ccpp_top.specs.Grammar.{Pieces, Is, all, factor, product, summand, sum, next_out, line_of_kind, statement, program, piece_of, pieces, IsEarlySource, IsNoEarlySource}
-use Rattle.ccpp_top.proofs.Outcomes.{product_steps, summands_steps, sum_steps, items_steps, kind_steps, statements_steps, most_steps}
+use Rattle.ccpp_top.specs.declared.fault.EarlyFault.{EarlyFault}
+use Rattle.ccpp_top.specs.declared.fault.EarlyFault.TheVariants as early_fault
+use Rattle.ccpp_top.specs.declared.source.Refusal.{Refusal}
+use Rattle.ccpp_top.specs.declared.source.Refusal.TheVariants.{Lex, Parse, NotYet, Memory}
 use Rattle.ccpp_top.specs.Answers.{step_limit}
-use Rattle.ccpp_top.specs.Reading.{Reading, Read, Unread}
-use Rattle.ccpp_top.specs.Reading as r
-use Rattle.ccpp_top.proofs.GrammarLaws.{program_sound, program_complete}
+use Rattle.ccpp_top.specs.Form.{◌>>=◌, summands_parts, sum_parts, items_parts, kind_parts, statements_parts, parts, most_parts, main_of, of_main, early_of}
+use Rattle.ccpp_top.specs.Source.{IsProgramText, IsEarlySource, IsNoEarlySource, IsRefusedFor, early_refusal}
+use Rattle.ccpp_top.proofs.Outcomes.{summands_steps, sum_steps, items_steps, kind_steps, statements_steps, most_steps}
 
--- ---- a source has more tokens than its run has steps
+-- ---- a run has no more steps than the program has parts
 
-factors_steps : (ns : List ℤ) → length ns ≤ length (all factor ns)
-factors_steps [] = omega arith
-factors_steps (n ∷ ns) = let ih = factors_steps ns in omega arith
+summands_same : (ss : List Summand) → summands_steps ss ≡ summands_parts ss
+summands_same [] = refl
+summands_same (s ∷ ss) = let ih = summands_same ss in omega arith
 
-product_tokens : (m : Product) → suc (product_steps m) ≤ length (product m)
-product_tokens m = let h = factors_steps m.rest in omega arith
+sum_same : (s : Sum) → sum_steps s ≡ sum_parts s
+sum_same s = let h = summands_same s.rest in omega arith
 
-summands_tokens : (ss : List Summand) → summands_steps ss ≤ length (all summand ss)
-summands_tokens [] = omega arith
-summands_tokens (s ∷ ss) =
-    let ih = summands_tokens ss in
-    let h = product_tokens s.product in
-    let e = length-append (summand s) (all summand ss) in
-    omega arith
+items_same : (xs : List Item) → items_steps xs ≡ items_parts xs
+items_same [] = refl
+items_same (i.Value s ∷ xs) = let ih = items_same xs in let h = sum_same s in omega arith
+items_same (i.Str bytes ∷ xs) = let ih = items_same xs in omega arith
+items_same (i.Endl ∷ xs) = let ih = items_same xs in omega arith
 
-sum_tokens : (s : Sum) → suc (sum_steps s) ≤ length (sum s)
-sum_tokens s =
-    let h = product_tokens s.first in
-    let g = summands_tokens s.rest in
-    let e = length-append (product s.first) (all summand s.rest) in
-    omega arith
+kind_same : (x : StatementKind) → kind_steps x ≡ kind_parts x
+kind_same (k.Print first rest) = ap suc (items_same (first ∷ rest))
+kind_same (k.Return s) = ap suc (sum_same s)
 
-item_tokens : (x : Item) (xs : List Item) (b : ℕ) → items_steps xs ≤ b → items_steps (x ∷ xs) ≤ length (next_out x) + b
-item_tokens (i.Value s) xs b h = let g = sum_tokens s in omega arith
-item_tokens (i.Str bytes) xs b h = omega arith
-item_tokens i.Endl xs b h = omega arith
+statements_same : (ss : List Statement) → statements_steps ss ≡ suc (statements_parts ss)
+statements_same [] = refl
+statements_same (s ∷ ss) = let ih = statements_same ss in let h = kind_same s.kind in omega arith
 
-items_tokens : (xs : List Item) → items_steps xs ≤ length (all next_out xs)
-items_tokens [] = omega arith
-items_tokens (x ∷ xs) =
-    let h = item_tokens x xs (length (all next_out xs)) (items_tokens xs) in
-    let e = length-append (next_out x) (all next_out xs) in
-    omega arith
+bounded_by : (b : Bool) (e early : Early) → nat_le (parts e) most_parts ≡ b → (if b then Some e else None) ≡ Some early → parts early ≤ most_parts
+bounded_by true e early h i =
+    let same : e ≡ early = cc i in
+    let le : parts e ≤ most_parts = leb-true (parts e) most_parts h in
+    subst (λ x. parts x ≤ most_parts) same le
+bounded_by false e early h i = cc i
 
-kind_tokens : (line : ℕ) (x : StatementKind) → kind_steps x ≤ length (line_of_kind line x)
-kind_tokens line (k.Print first rest) = let h = items_tokens (first ∷ rest) in omega arith
-kind_tokens line (k.Return s) = let h = sum_tokens s in omega arith
+bounded : (o : Option Early) (early : Early) → (o >>= (λ e. if nat_le (parts e) most_parts then Some e else None)) ≡ Some early → parts early ≤ most_parts
+bounded None early h = cc h
+bounded (Some e) early h = bounded_by (nat_le (parts e) most_parts) e early refl h
 
-statements_tokens : (ss : List Statement) → statements_steps ss ≤ suc (length (all statement ss))
-statements_tokens [] = omega arith
-statements_tokens (s ∷ ss) =
-    let ih = statements_tokens ss in
-    let h = kind_tokens s.line s.kind in
-    let e = length-append (statement s) (all statement ss) in
-    let d = length-append (line_of_kind s.line s.kind) (Is Semicolon ∷ []) in
-    omega arith
-
-program_tokens : (early : Early) → most_steps early ≤ length (program early)
-program_tokens early =
-    let h = statements_tokens early.statements in
-    let e = length-append (all statement early.statements) (Is CloseBrace ∷ []) in
-    omega arith
-
--- ---- what was read
-
-module _ (a : Pieces) where
-  pub read_program : (early : Early) (b : Pieces) → r.program a ≡ Read early b → length b ≡ 0 → a ≡ program early
-  read_program early [] h none = program_sound a [] early h ∙ append-nil (program early)
-  read_program early (p ∷ ps) h none = absurd (omega arith)
-
-  -- of what a program is written as the whole program is read
-  read_whole : (early : Early) → a ≡ program early → r.program a ≡ Read early []
-  read_whole early is = ap r.program (is ∙ sym (append-nil (program early))) ∙ program_complete early [] tt
-
-  pub unread_program : r.program a ≡ Unread → (early : Early) → a ≡ program early → ⊥
-  unread_program h early is = let e = sym h ∙ read_whole early is in cc e
-
-  pub longer_program : (early : Early) (b : Pieces) → r.program a ≡ Read early b → 0 < length b → (other : Early) → a ≡ program other → ⊥
-  longer_program early [] h some other is = absurd (omega arith)
-  longer_program early (p ∷ ps) h some other is = let e = sym h ∙ read_whole other is in cc e
-
-module _ (text : List ℕ) (tokens : List Token) (cut : Cut text tokens) where
-  pub is_source : (early : Early) → pieces text tokens ≡ program early → IsEarlySource text early
-  is_source early is = record { tokens = tokens; cut = cut; written = is }
-
-  pub is_none : ((others : List Token) → Cut text others → tokens ≡ others) → ((early : Early) → pieces text tokens ≡ program early → ⊥) → IsNoEarlySource text
-  is_none one none early is = none early (ap (pieces text) (one is.tokens is.cut) ∙ is.written)
+bounded_main : (p : Program) (early : Early) → early_of p ≡ Some early → parts early ≤ most_parts
+unfolding early_of
+bounded_main p early h = go (main_of p) h
+  where
+    go : (o : Option _) → (o >>= (λ f. of_main f >>= (λ e. if nat_le (parts e) most_parts then Some e else None))) ≡ Some early → parts early ≤ most_parts
+    go None h = cc h
+    go (Some f) h = bounded (of_main f) early h
 
 pub few_steps : (text : List ℕ) (early : Early) → IsEarlySource text early → most_steps early < step_limit
 few_steps text early is =
-    let h = program_tokens early in
-    let n = ap length is.written in
-    let m : length (pieces text is.tokens) ≡ length is.tokens = length-map (lexemes text is.tokens) piece_of ∙ length-map is.tokens _ in
-    let c = cut_count text is.tokens is.cut in
-    let b = is.cut.not_too_long in
+    let h = statements_same early.statements in
+    let g = bounded_main is.program early is.form in
     omega arith
+
+-- ---- texts of programs
+
+-- a refused source is none
+pub no_source : (text : List ℕ) (w : Refusal) → IsRefusedFor text w → IsNoEarlySource text
+no_source text (Lex fault) f = λ early is. f.1 is.program is.is_text
+no_source text (Parse fault line) f = λ early is. f.1 is.program is.is_text
+no_source text NotYet f = f.1
+no_source text Memory f = absurd f
+
+-- a program that is not of the early form
+pub not_yet : (text : List ℕ) (p : Program) → IsProgramText text p → ((q : Program) → IsProgramText text q → p ≡ q) → (w : EarlyFault) → (w ≢ early_fault.Memory → early_of p ≡ None) → early_refusal w ≢ Memory → IsRefusedFor text (early_refusal w)
+not_yet text p t one early_fault.NotYet none m =
+    let n : early_of p ≡ None = none (λ e. cc e) in
+    (record { program = p; is_text = t; form = n }, λ early is. (let e = sym n ∙ (ap early_of (one is.program is.is_text) ∙ is.form) in cc e))
+not_yet text p t one early_fault.Memory none m = absurd (m refl)

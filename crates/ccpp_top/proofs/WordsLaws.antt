@@ -1,66 +1,84 @@
 -- Which words ask for a command, and where others are wrong.
-use Rattle.std.proofs.Common.{◌≡◌, ℕ, List, [], ◌∷◌, length, refl, sym, subst, inl, inr, arith}
+use Rattle.std.proofs.Common.{◌≡◌, ℕ, List, [], ◌∷◌, length, refl, sym, ap, ◌∙◌, subst, inl, inr, arith}
 use Rattle.std.specs.Prelude.{codes}
 use Rattle.ccpp_top.specs.declared.command.Command.{Command}
-use Rattle.ccpp_top.specs.declared.command.Command.TheVariants.{Run}
-use Rattle.ccpp_top.specs.Words.{AskFor, IsFileName, IsFront, IsWrongAt}
+use Rattle.ccpp_top.specs.declared.command.Command.TheVariants.{Run, Message}
+use Rattle.ccpp_top.specs.declared.command.Verb.{Verb}
+use Rattle.ccpp_top.specs.declared.command.Verb.TheVariants as verb
+use Rattle.ccpp_top.specs.Words.{AskFor, IsFileName, IsFront, IsWrongAt, verb_word, command_on}
+
+-- a verb and a file ask for the verb's command
+asks : (v : Verb) (file : List ℕ) → IsFileName file → AskFor (verb_word v ∷ file ∷ []) (command_on v file)
+asks verb.Run file named = (refl, named)
+asks verb.Message file named = (refl, named)
+
+-- whatever is asked for is asked by a verb and a file
+record Asked (words : List (List ℕ)) : Type 0 where
+  by : Verb
+  file : List ℕ
+  are : words ≡ verb_word by ∷ file ∷ []
+  named : IsFileName file
+
+asked_by : (words : List (List ℕ)) (command : Command) → AskFor words command → Asked words
+asked_by words (Run file) asked = record { by = verb.Run; file = file; are = asked.0; named = asked.1 }
+asked_by words (Message file) asked = record { by = verb.Message; file = file; are = asked.0; named = asked.1 }
 
 -- what every command asks of its words
-no_command : (words : List (List ℕ)) → ((file : List ℕ) → words ≡ codes "run" ∷ file ∷ [] → IsFileName file → ⊥) → (command : Command) → AskFor words command → ⊥
-no_command words none (Run file) asked = none file asked.0 asked.1
+no_command : (words : List (List ℕ)) → (Asked words → ⊥) → (command : Command) → AskFor words command → ⊥
+no_command words none command asked = none (asked_by words command asked)
 
 -- a name for a file
 letter_is : IsFileName (codes "f")
 letter_is e = cc e
 
-run_is : AskFor (codes "run" ∷ codes "f" ∷ []) (Run (codes "f"))
-run_is = (refl, letter_is)
-
 front_none : IsFront []
-front_none = (codes "run" ∷ codes "f" ∷ [], Run (codes "f"), run_is)
+front_none = (verb_word verb.Run ∷ codes "f" ∷ [], command_on verb.Run (codes "f"), asks verb.Run (codes "f") letter_is)
 
-front_run : IsFront (codes "run" ∷ [])
-front_run = (codes "f" ∷ [], Run (codes "f"), run_is)
+front_verb : (v : Verb) → IsFront (verb_word v ∷ [])
+front_verb v = (codes "f" ∷ [], command_on v (codes "f"), asks v (codes "f") letter_is)
 
-front_file : (file : List ℕ) → IsFileName file → IsFront (codes "run" ∷ file ∷ [])
-front_file file h = ([], Run file, (refl, h))
+front_file : (v : Verb) (file : List ℕ) → IsFileName file → IsFront (verb_word v ∷ file ∷ [])
+front_file v file h = ([], command_on v file, asks v file h)
 
 no_words : IsWrongAt [] 1
 no_words = record {
-  refused = no_command [] (λ file e h. cc e);
+  refused = no_command [] (λ a. let are = a.are in cc are);
   front = front_none;
   first = inl refl;
 }
 
-wrong_name : (w : List ℕ) (ws : List (List ℕ)) → (w ≡ codes "run" → ⊥) → IsWrongAt (w ∷ ws) 1
+wrong_name : (w : List ℕ) (ws : List (List ℕ)) → ((v : Verb) → w ≡ verb_word v → ⊥) → IsWrongAt (w ∷ ws) 1
 wrong_name w ws other = record {
-  refused = no_command (w ∷ ws) (λ file e h. other (cc e));
+  refused = no_command (w ∷ ws) (none ws);
   front = front_none;
-  first = inr (λ h. no_command (w ∷ h.0) (λ file e h. other (cc e)) h.1 h.2);
-}
-
-no_file : IsWrongAt (codes "run" ∷ []) 2
-no_file = record {
-  refused = no_command (codes "run" ∷ []) (λ file e h. cc e);
-  front = front_run;
-  first = inl refl;
-}
-
-wrong_file : (w : List ℕ) (ws : List (List ℕ)) → (IsFileName w → ⊥) → IsWrongAt (codes "run" ∷ w ∷ ws) 2
-wrong_file w ws other = record {
-  refused = no_command (codes "run" ∷ w ∷ ws) (none ws);
-  front = front_run;
-  first = inr (λ h. no_command (codes "run" ∷ w ∷ h.0) (none h.0) h.1 h.2);
+  first = inr (λ h. no_command (w ∷ h.0) (none h.0) h.1 h.2);
 }
   where
-    none : (more : List (List ℕ)) (file : List ℕ) → codes "run" ∷ w ∷ more ≡ codes "run" ∷ file ∷ [] → IsFileName file → ⊥
-    none more file e h = let same : file ≡ w = cc e in other (subst IsFileName same h)
+    none : (more : List (List ℕ)) → Asked (w ∷ more) → ⊥
+    none more a = let is : w ≡ verb_word a.by = cc a.are in other a.by is
 
-too_many : (file w : List ℕ) (ws : List (List ℕ)) → IsFileName file → IsWrongAt (codes "run" ∷ file ∷ w ∷ ws) 3
-too_many file w ws h = record {
-  refused = no_command (codes "run" ∷ file ∷ w ∷ ws) (λ f e g. cc e);
-  front = front_file file h;
-  first = inr (λ h. no_command (codes "run" ∷ file ∷ w ∷ h.0) (λ f e g. cc e) h.1 h.2);
+no_file : (v : Verb) → IsWrongAt (verb_word v ∷ []) 2
+no_file v = record {
+  refused = no_command (verb_word v ∷ []) (λ a. let are = a.are in cc are);
+  front = front_verb v;
+  first = inl refl;
+}
+
+wrong_file : (v : Verb) (w : List ℕ) (ws : List (List ℕ)) → (IsFileName w → ⊥) → IsWrongAt (verb_word v ∷ w ∷ ws) 2
+wrong_file v w ws other = record {
+  refused = no_command (verb_word v ∷ w ∷ ws) (none ws);
+  front = front_verb v;
+  first = inr (λ h. no_command (verb_word v ∷ w ∷ h.0) (none h.0) h.1 h.2);
+}
+  where
+    none : (more : List (List ℕ)) → Asked (verb_word v ∷ w ∷ more) → ⊥
+    none more a = let same : a.file ≡ w = cc a.are in other (subst IsFileName same a.named)
+
+too_many : (v : Verb) (file w : List ℕ) (ws : List (List ℕ)) → IsFileName file → IsWrongAt (verb_word v ∷ file ∷ w ∷ ws) 3
+too_many v file w ws h = record {
+  refused = no_command (verb_word v ∷ file ∷ w ∷ ws) (λ a. let are = a.are in cc are);
+  front = front_file v file h;
+  first = inr (λ h. no_command (verb_word v ∷ file ∷ w ∷ h.0) (λ a. let are = a.are in cc are) h.1 h.2);
 }
 
 -- the same, of words by what was read of them
@@ -68,19 +86,22 @@ pub none_wrong : (words : List (List ℕ)) (place : ℕ) → length words ≡ 0 
 none_wrong [] place e at = subst (IsWrongAt []) (sym at) no_words
 none_wrong (w ∷ ws) place e at = absurd (omega arith)
 
-pub name_wrong : (words : List (List ℕ)) (place : ℕ) (name : List ℕ) (more : List (List ℕ)) → words ≡ name ∷ more → (name ≡ codes "run" → ⊥) → place ≡ 1 → IsWrongAt words place
+pub name_wrong : (words : List (List ℕ)) (place : ℕ) (name : List ℕ) (more : List (List ℕ)) → words ≡ name ∷ more → ((v : Verb) → name ≡ verb_word v → ⊥) → place ≡ 1 → IsWrongAt words place
 name_wrong words place name more e other at = rw (e, at) (wrong_name name more other)
 
-pub no_file_wrong : (words : List (List ℕ)) (place : ℕ) (more : List (List ℕ)) → words ≡ codes "run" ∷ more → length more ≡ 0 → place ≡ 2 → IsWrongAt words place
-no_file_wrong words place [] e none at = rw (e, at) no_file
-no_file_wrong words place (w ∷ ws) e none at = absurd (omega arith)
+module _ (v : Verb) where
+  pub no_file_wrong : (words : List (List ℕ)) (place : ℕ) (more : List (List ℕ)) → words ≡ verb_word v ∷ more → length more ≡ 0 → place ≡ 2 → IsWrongAt words place
+  no_file_wrong words place [] e none at = rw (e, at) (no_file v)
+  no_file_wrong words place (w ∷ ws) e none at = absurd (omega arith)
 
-pub file_wrong : (words : List (List ℕ)) (place : ℕ) (more : List (List ℕ)) (file : List ℕ) (rest : List (List ℕ)) → words ≡ codes "run" ∷ more → more ≡ file ∷ rest → (IsFileName file → ⊥) → place ≡ 2 → IsWrongAt words place
-file_wrong words place more file rest e f other at = rw (e, f, at) (wrong_file file rest other)
+  pub file_wrong : (words : List (List ℕ)) (place : ℕ) (more : List (List ℕ)) (file : List ℕ) (rest : List (List ℕ)) → words ≡ verb_word v ∷ more → more ≡ file ∷ rest → (IsFileName file → ⊥) → place ≡ 2 → IsWrongAt words place
+  file_wrong words place more file rest e f other at = rw (e, f, at) (wrong_file v file rest other)
 
-pub more_wrong : (words : List (List ℕ)) (place : ℕ) (more : List (List ℕ)) (file : List ℕ) (rest : List (List ℕ)) (w : List ℕ) (ws : List (List ℕ)) → words ≡ codes "run" ∷ more → more ≡ file ∷ rest → IsFileName file → rest ≡ w ∷ ws → place ≡ 3 → IsWrongAt words place
-more_wrong words place more file rest w ws e f named r at = rw (e, f, r, at) (too_many file w ws named)
+  pub more_wrong : (words : List (List ℕ)) (place : ℕ) (more : List (List ℕ)) (file : List ℕ) (rest : List (List ℕ)) (w : List ℕ) (ws : List (List ℕ)) → words ≡ verb_word v ∷ more → more ≡ file ∷ rest → IsFileName file → rest ≡ w ∷ ws → place ≡ 3 → IsWrongAt words place
+  more_wrong words place more file rest w ws e f named r at = rw (e, f, r, at) (too_many v file w ws named)
 
-pub asked : (words more : List (List ℕ)) (file : List ℕ) (rest : List (List ℕ)) (copy : List ℕ) → words ≡ codes "run" ∷ more → more ≡ file ∷ rest → length rest ≡ 0 → IsFileName file → copy ≡ file → AskFor words (Run copy)
-asked words more file [] copy e f none named is = (rw (e, f, is) refl, rw is named)
-asked words more file (w ∷ ws) copy e f none named is = absurd (omega arith)
+  pub asked : (words more : List (List ℕ)) (file : List ℕ) (rest : List (List ℕ)) (copy : List ℕ) (command : Command) → words ≡ verb_word v ∷ more → more ≡ file ∷ rest → length rest ≡ 0 → IsFileName file → copy ≡ file → command ≡ command_on v copy → AskFor words command
+  asked words more file [] copy command e f none named is on =
+      let are : words ≡ verb_word v ∷ copy ∷ [] = e ∙ ap (λ l. verb_word v ∷ l) (f ∙ ap (λ l. l ∷ []) (sym is)) in
+      subst (λ c. AskFor words c) (sym on) (subst (λ ws. AskFor ws (command_on v copy)) (sym are) (asks v copy (subst IsFileName (sym is) named)))
+  asked words more file (w ∷ ws) copy command e f none named is on = absurd (omega arith)

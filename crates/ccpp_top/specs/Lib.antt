@@ -2,10 +2,10 @@ pub mod Answers
 pub mod Code
 pub mod Early
 pub mod Execution
-pub mod Grammar
+pub mod Form
 pub mod Machine
+pub mod Messages
 pub mod Operator
-pub mod Reading
 pub mod Source
 pub mod Status
 pub mod Words

@@ -1,19 +1,69 @@
--- Why a source is refused.
-use Rattle.std.specs.Prelude.{ℕ, List, [], ◌++◌, codes, decimal}
+-- Sources, and why one is refused.
+use Rattle.std.specs.Prelude.{◌≡◌, ℕ, List, [], ◌++◌, Some, None, codes, decimal}
 use Rattle.cc_lexer.specs.declared.fault.LexFault.{LexFault}
 use Rattle.cc_lexer.specs.declared.fault.LexFault.TheVariants as lex
+use Rattle.cc_lexer.specs.declared.token.Token.{Token}
+use Rattle.cc_lexer.specs.Cut.{Cut}
 use Rattle.cc_lexer.specs.Faults.{FirstFault}
+use Rattle.cc_lexer.specs.Lexemes.{lexemes}
+use Rattle.cc_tree.specs.declared.declarations.Program.{Program}
+use Rattle.cc_grammar.specs.Program.{Spells}
+use Rattle.cc_parser.specs.declared.fault.ParseFault.{ParseFault}
+use Rattle.cc_parser.specs.declared.fault.ParseFault.TheVariants as parse
+use Rattle.cc_parser.specs.Faults.{line_at}
+use Rattle.cc_parser.specs.Faults as faults
+use Rattle.ccpp_top.specs.declared.early.Early.{Early}
 use Rattle.ccpp_top.specs.declared.fault.EarlyFault.{EarlyFault}
 use Rattle.ccpp_top.specs.declared.fault.EarlyFault.TheVariants as early
 use Rattle.ccpp_top.specs.declared.source.Refusal.{Refusal}
-use Rattle.ccpp_top.specs.declared.source.Refusal.TheVariants.{Lex, NotYet, Memory}
-use Rattle.ccpp_top.specs.Grammar.{IsCut, IsNoEarlySource}
+use Rattle.ccpp_top.specs.declared.source.Refusal.TheVariants.{Lex, Parse, NotYet, Memory}
+use Rattle.ccpp_top.specs.Form.{early_of}
 
--- it is no source, and this is why: its first fault, or that it is none of those that are taken so far
+-- the text is cut into tokens, and these spell the program
+pub record IsProgramText (text : List ℕ) (program : Program) : Type 0 where
+  pub tokens : List Token
+  pub cut : Cut text tokens
+  pub spelled : Spells (lexemes text tokens) program
+
+abbrev pub IsNoProgramText : List ℕ → Type 0
+IsNoProgramText text = (program : Program) → IsProgramText text program → ⊥
+
+-- it is the text of a program, and this is of the early form
+pub record IsEarlySource (text : List ℕ) (early : Early) : Type 0 where
+  pub program : Program
+  pub is_text : IsProgramText text program
+  pub form : early_of program ≡ Some early
+
+abbrev pub IsNoEarlySource : List ℕ → Type 0
+IsNoEarlySource text = (early : Early) → IsEarlySource text early → ⊥
+
+-- ---- why a source is refused
+
+-- the number of the token that is refused
+abbrev pub place_of : ParseFault → ℕ
+place_of (parse.Syntax at) = at
+place_of (parse.TooDeep at) = at
+place_of parse.Memory = 0
+
+-- it is cut into tokens, and these stop being the front of a program at a token of this line
+pub record IsMisread (text : List ℕ) (fault : ParseFault) (line : ℕ) : Type 0 where
+  pub tokens : List Token
+  pub cut : Cut text tokens
+  pub refused : faults.IsRefusedFor (lexemes text tokens) fault
+  pub has_line : line ≡ line_at tokens (place_of fault)
+
+-- it is the text of a program that is not of the early form
+pub record IsNotYet (text : List ℕ) : Type 0 where
+  pub program : Program
+  pub is_text : IsProgramText text program
+  pub form : early_of program ≡ None
+
+-- this is why it is refused
 abbrev pub IsRefusedFor : List ℕ → Refusal → Type 0
-IsRefusedFor source (Lex fault) = FirstFault source fault × IsNoEarlySource source
-IsRefusedFor source NotYet = IsCut source × IsNoEarlySource source
-IsRefusedFor source Memory = ⊥
+IsRefusedFor text (Lex fault) = FirstFault text fault × IsNoProgramText text
+IsRefusedFor text (Parse fault line) = IsMisread text fault line × IsNoProgramText text
+IsRefusedFor text NotYet = IsNotYet text × IsNoEarlySource text
+IsRefusedFor text Memory = ⊥
 
 abbrev pub lex_fault_text : LexFault → List ℕ
 lex_fault_text lex.TooLong = codes "TooLong"
@@ -24,9 +74,18 @@ lex_fault_text (lex.LongName at) = codes "LongName at " ++ decimal at
 lex_fault_text (lex.NumberTooLarge at) = codes "NumberTooLarge at " ++ decimal at
 lex_fault_text lex.Memory = []
 
+abbrev pub parse_fault_text : ParseFault → List ℕ
+parse_fault_text (parse.Syntax at) = codes "Syntax at " ++ decimal at
+parse_fault_text (parse.TooDeep at) = codes "TooDeep at " ++ decimal at
+parse_fault_text parse.Memory = []
+
+abbrev pub in_line : List ℕ → (line : ℕ) → List ℕ
+in_line fault line = fault ++ (codes " line " ++ decimal line)
+
 -- what is answered, without the end of its line
 abbrev pub refusal_text : Refusal → List ℕ
 refusal_text (Lex fault) = codes "refused lex " ++ lex_fault_text fault
+refusal_text (Parse fault line) = codes "refused parse " ++ in_line (parse_fault_text fault) line
 refusal_text NotYet = codes "refused early NotYet"
 refusal_text Memory = []
 
@@ -35,6 +94,10 @@ refusal_text Memory = []
 abbrev pub lex_refusal : LexFault → Refusal
 lex_refusal lex.Memory = Memory
 lex_refusal fault = Lex fault
+
+abbrev pub parse_refusal : List Token → ParseFault → Refusal
+parse_refusal tokens parse.Memory = Memory
+parse_refusal tokens fault = Parse fault (line_at tokens (place_of fault))
 
 abbrev pub early_refusal : EarlyFault → Refusal
 early_refusal early.NotYet = NotYet

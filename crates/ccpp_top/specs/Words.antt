@@ -1,7 +1,9 @@
 -- The words of the command line, and the commands that they ask for.
 use Rattle.std.specs.Prelude.{◌≡◌, ◌≢◌, ℕ, ◌+◌, ◌-◌, ◌⊎◌, List, [], ◌∷◌, ◌++◌, length, take, codes}
 use Rattle.ccpp_top.specs.declared.command.Command.{Command}
-use Rattle.ccpp_top.specs.declared.command.Command.TheVariants.{Run}
+use Rattle.ccpp_top.specs.declared.command.Command.TheVariants.{Run, Message}
+use Rattle.ccpp_top.specs.declared.command.Verb.{Verb}
+use Rattle.ccpp_top.specs.declared.command.Verb.TheVariants as verb
 
 -- a word that names a file: it is not empty and does not begin with '-'
 abbrev pub IsFileName : List ℕ → Type 0
@@ -10,6 +12,12 @@ IsFileName (b ∷ bs) = b ≢ 45
 
 abbrev pub AskFor : List (List ℕ) → Command → Type 0
 AskFor words (Run file) = (words ≡ codes "run" ∷ file ∷ []) × IsFileName file
+AskFor words (Message file) = (words ≡ codes "message" ∷ file ∷ []) × IsFileName file
+
+-- the file that a command reads
+abbrev pub file_of : Command → List ℕ
+file_of (Run file) = file
+file_of (Message file) = file
 
 -- some words that ask for a command begin with these
 abbrev pub IsFront : List (List ℕ) → Type 0
@@ -21,3 +29,13 @@ pub record IsWrongAt (words : List (List ℕ)) (place : ℕ) : Type 0 where
   pub refused : (command : Command) → AskFor words command → ⊥
   pub front : IsFront (take (place - 1) words)
   pub first : (place ≡ length words + 1) ⊎ (IsFront (take place words) → ⊥)
+
+-- ---- commands of two words, a verb and a file
+
+abbrev pub verb_word : Verb → List ℕ
+verb_word verb.Run = codes "run"
+verb_word verb.Message = codes "message"
+
+abbrev pub command_on : Verb → List ℕ → Command
+command_on verb.Run = Run
+command_on verb.Message = Message

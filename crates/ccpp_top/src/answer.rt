@@ -45,7 +45,8 @@ impl Answer {
     }
 }
 
-fn push_line(text: &mut Bytes, line: &str) -> Result<(), Memory>
+/// Puts a line at the end.
+pub(crate) fn push_line(text: &mut Bytes, line: &str) -> Result<(), Memory>
     ensures { OnOk result (text.new ≡ text.old ++ spec.line line.now) }
 {
     text.extend_from_slice(line.as_bytes())?;

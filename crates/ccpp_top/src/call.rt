@@ -1,12 +1,14 @@
 ghost use Rattle.std.specs.Prelude.{◌≡◌, ◌≢◌, ℕ, List, IfOk};
 ghost use Rattle.ccpp_edge.specs.Count.{Rose};
 ghost use Rattle.ccpp_edge.specs.Shelf.{Holds};
-ghost use Rattle.ccpp_top.specs.Answers.{Answers, Says, Gains, GainsFront, Cause};
-ghost use Rattle.ccpp_top.specs.Words.{AskFor};
+ghost use Rattle.ccpp_top.specs.Answers.{Answers, AnswersTo, Says, Gains, GainsFront, Cause};
+ghost use Rattle.ccpp_top.specs.Words.{AskFor, file_of};
+ghost use Rattle.ccpp_top.specs.declared.command.Command.{Command};
 ghost use Rattle.ccpp_top.specs.declared.command.Command.TheVariants.{Run};
 
 use crate::answer::Answer;
 use crate::command::{Command, WordsFault};
+use crate::message::messages_of;
 use crate::run::run;
 use crate::source::read_source;
 use crate::status::Status;
@@ -18,7 +20,9 @@ use std::thread::Threads;
 /// Does what the words of a command line ask for: reads from the shelf, and writes one text to the sink.
 ///
 /// `run F` runs the program in the file F and writes its report: a run of the source definition comes to this output and this
-/// end within 10,000,000 steps. A file that is no program of the early form is refused, and so are other words.
+/// end within 10,000,000 steps. A file that is no program is refused, with the first fault of the lexer or of the parser, and so are
+/// programs that are not of the early form. `message F` lists the requests whose messages the file F holds, or says at which byte
+/// that is none. Other words are refused.
 /// The runtime and the gate are for programs that start threads, of which there are none yet.
 pub fn ccpp<R: Threads + Sync, S: Shelf, O: Sink, G: Gate>(
     _rt: &R,
@@ -37,6 +41,15 @@ pub fn ccpp<R: Threads + Sync, S: Shelf, O: Sink, G: Gate>(
         → (Rose (O.faults out.old) (O.faults out.new) → ⊥)
         → result ≢ Status.Memory
         → Gains (Answers source) (O.written out.old) (O.written out.new) result }
+
+    // Under the same premises each command on a file writes what it answers on that file's bytes.
+    ensures completeness { (command : Command) (bytes : List ℕ)
+        → AskFor words.now command
+        → Holds (S.held shelf.old) (file_of command) bytes
+        → (Rose (S.faults shelf.old) (S.faults shelf.new) → ⊥)
+        → (Rose (O.faults out.old) (O.faults out.new) → ⊥)
+        → result ≢ Status.Memory
+        → Gains (AnswersTo command bytes) (O.written out.old) (O.written out.new) result }
 
     // The whole text is written, or a front of it where the sink fails, or nothing where memory runs out.
     ensures answer { result ≢ Status.WriteFault → result ≢ Status.Memory
@@ -64,7 +77,7 @@ fn answer_to<S: Shelf>(alloc: Global, words: &[Word], shelf: &mut S) -> Result<A
     ensures held { S.held shelf.new ≡ S.held shelf.old }
 {
     match Command::of(alloc, words) {
-        Ok(Command::Run { file }) => answer_to_run(alloc, file.as_str(), shelf),
+        Ok(command) => answer_to_command(alloc, &command, shelf),
         Err(WordsFault::Wrong { place }) => {
             Answer::line(
                 alloc,
@@ -76,13 +89,18 @@ fn answer_to<S: Shelf>(alloc: Global, words: &[Word], shelf: &mut S) -> Result<A
     }
 }
 
-/// What is answered to words that ask to run the program in the file.
-fn answer_to_run<S: Shelf>(alloc: Global, file: &str, shelf: &mut S) -> Result<Answer, Memory>
-    ensures says { (words : List (List ℕ)) → AskFor words (Run file.now) → IfOk result (λ answer. Says words (S.held shelf.old) (S.faults shelf.old) (S.faults shelf.new) answer.text answer.status) }
+/// What is answered to words that ask for a command on a file.
+fn answer_to_command<S: Shelf>(
+    alloc: Global,
+    command: &Command,
+    shelf: &mut S,
+) -> Result<Answer, Memory>
+    ensures says { (words : List (List ℕ)) → AskFor words command.now → IfOk result (λ answer. Says words (S.held shelf.old) (S.faults shelf.old) (S.faults shelf.new) answer.text answer.status) }
     ensures held { S.held shelf.new ≡ S.held shelf.old }
 {
+    let file = command.file();
     match shelf.read(file) {
-        Ok(source) => answer_of(alloc, source.as_slice()),
+        Ok(bytes) => answer_on(alloc, command, bytes.as_slice()),
         Err(ShelfFault::Absent) => Answer::line(
             alloc,
             Status::NoFile,
@@ -90,6 +108,16 @@ fn answer_to_run<S: Shelf>(alloc: Global, file: &str, shelf: &mut S) -> Result<A
         ),
         Err(ShelfFault::Failed) => Answer::line(alloc, Status::ReadFault, "read fault"),
         Err(ShelfFault::Memory) => Err(AllocError),
+    }
+}
+
+/// What a command answers on the bytes of its file.
+fn answer_on(alloc: Global, command: &Command, bytes: &[u8]) -> Result<Answer, Memory>
+    ensures { IfOk result (λ answer. AnswersTo command.now bytes.now answer.text answer.status) }
+{
+    match command {
+        Command::Run { .. } => answer_of(alloc, bytes),
+        Command::Message { .. } => messages_of(alloc, bytes),
     }
 }
 

@@ -1,5 +1,5 @@
-ghost use Rattle.std.specs.Prelude.{◌≡◌, ℕ, IfOk, IsTrue, ◌↔◌};
-ghost use Rattle.ccpp_top.specs.Words.{AskFor, IsFileName, IsWrongAt};
+ghost use Rattle.std.specs.Prelude.{◌≡◌, ◌≢◌, ℕ, IfOk, MatchOption, IsTrue, ◌↔◌};
+ghost use Rattle.ccpp_top.specs.Words.{AskFor, IsFileName, IsWrongAt, file_of};
 
 use crate::word::Word;
 use ccpp_edge::Text;
@@ -10,6 +10,41 @@ use std::alloc::{AllocError, Global};
 pub(crate) enum Command {
     /// To run the program in the file.
     Run { file: Text },
+    /// To list the messages in the file.
+    Message { file: Text },
+}
+
+/// The first word of a command.
+#[derive(Clone, Copy)]
+enum Verb {
+    Run,
+    Message,
+}
+
+impl Verb {
+    ghost use Rattle.ccpp_top.specs.Words.{verb_word, command_on};
+    ghost use Rattle.ccpp_top.specs.declared.command.Verb.{Verb};
+
+    /// The verb that the word is.
+    fn of(word: &str) -> Option<Verb>
+        ensures { MatchOption result ((verb : Verb) → word.now ≢ verb_word verb) (λ verb. word.now ≡ verb_word verb) }
+    {
+        match word {
+            "run" => Some(Verb::Run),
+            "message" => Some(Verb::Message),
+            _ => None,
+        }
+    }
+
+    /// The command to do so on a file.
+    fn on(self, file: Text) -> Command
+        ensures { result ≡ command_on self file }
+    {
+        match self {
+            Verb::Run => Command::Run { file },
+            Verb::Message => Command::Message { file },
+        }
+    }
 }
 
 /// Why the words of a command line give no command.
@@ -49,9 +84,9 @@ impl Command {
         let Some(name) = words.next() else {
             return Err(WordsFault::Wrong { place: 1 });
         };
-        if name.as_text() != "run" {
+        let Some(verb) = Verb::of(name.as_text()) else {
             return Err(WordsFault::Wrong { place: 1 });
-        }
+        };
         let Some(file) = words.next() else {
             return Err(WordsFault::Wrong { place: 2 });
         };
@@ -61,8 +96,16 @@ impl Command {
         if let Some(_) = words.next() {
             return Err(WordsFault::Wrong { place: 3 });
         }
-        Ok(Command::Run {
-            file: Text::of(alloc, file.as_text())?,
-        })
+        let file = Text::of(alloc, file.as_text())?;
+        Ok(verb.on(file))
+    }
+
+    /// The name of the file that it reads.
+    pub(crate) fn file(&self) -> &str
+        ensures { result.now ≡ file_of self.now }
+    {
+        match self {
+            Command::Run { file } | Command::Message { file } => file.as_str(),
+        }
     }
 }

@@ -1,9 +1,9 @@
 use std::alloc::AllocError;
 
-/// Why tokens give no program of the early form.
+/// Why a tree gives no program of the early form.
 #[derive(Clone, Copy, Debug)]
 pub(crate) enum EarlyFault {
-    /// They are not of that form.
+    /// It is not of that form.
     NotYet,
     /// Want of memory.
     Memory,

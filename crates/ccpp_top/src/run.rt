@@ -1,7 +1,7 @@
 ghost use Rattle.std.specs.Prelude.{ℕ, List, [], IfOk};
 ghost use Rattle.ccpp_top.specs.Answers.{RunsTo, step_limit};
 ghost use Rattle.ccpp_top.specs.Early.{core_of};
-ghost use Rattle.ccpp_top.specs.Grammar.{IsEarlySource};
+ghost use Rattle.ccpp_top.specs.Source.{IsEarlySource};
 
 use crate::code::code_of;
 use crate::early::Early;

@@ -1,11 +1,13 @@
-ghost use Rattle.std.specs.Prelude.{◌≡◌, ◌≢◌, IfOk, IfErr, string_bytes};
-ghost use Rattle.ccpp_top.specs.Grammar.{IsEarlySource};
-ghost use Rattle.ccpp_top.specs.Source.{IsRefusedFor, lex_fault_text};
+ghost use Rattle.std.specs.Prelude.{◌≡◌, ◌≢◌, IfOk, IfErr, Ok, Err, string_bytes};
+ghost use Rattle.cc_tree.specs.declared.declarations.Program.{Program};
+ghost use Rattle.ccpp_top.specs.Source.{IsEarlySource, IsProgramText, IsRefusedFor, lex_fault_text, in_line, parse_fault_text, parse_refusal};
 
 use crate::early::Early;
 use crate::fault::EarlyFault;
-use crate::parse::parse;
-use cc_lexer::{LexFault, lex};
+use crate::form::early_of;
+use cc_lexer::{LexFault, Token, lex};
+use cc_parser::{ParseFault, line_at, parse};
+use cc_tree::Program;
 use ccpp_edge::Memory;
 use std::alloc::{AllocError, Global};
 
@@ -14,6 +16,8 @@ use std::alloc::{AllocError, Global};
 pub(crate) enum Refusal {
     /// It is not cut into tokens.
     Lex(LexFault),
+    /// Its tokens spell no program. The line is that of the token at which they stop being the front of one.
+    Parse { fault: ParseFault, line: u32 },
     /// It is not of the early form.
     NotYet,
     /// Want of memory.
@@ -72,6 +76,11 @@ impl Refusal {
                 let fault = lex_fault_text(alloc, fault)?;
                 format!(in alloc; "refused lex {fault}")
             }
+            Refusal::Parse { fault, line } => {
+                let fault = parse_fault_text(alloc, fault)?;
+                let place = in_line(alloc, fault.as_str(), line)?;
+                format!(in alloc; "refused parse {place}")
+            }
             Refusal::NotYet => format!(in alloc; "refused early NotYet"),
             Refusal::Memory => Err(AllocError),
         }
@@ -93,11 +102,55 @@ fn lex_fault_text(alloc: Global, fault: LexFault) -> Result<String, Memory>
     }
 }
 
+/// A fault of the parser, and the token at which it is.
+fn parse_fault_text(alloc: Global, fault: ParseFault) -> Result<String, Memory>
+    ensures { IfOk result (λ text. string_bytes text ≡ parse_fault_text fault) }
+{
+    match fault {
+        ParseFault::Syntax { at } => format!(in alloc; "Syntax at {at}"),
+        ParseFault::TooDeep { at } => format!(in alloc; "TooDeep at {at}"),
+        ParseFault::Memory => Err(AllocError),
+    }
+}
+
+fn in_line(alloc: Global, fault: &str, line: u32) -> Result<String, Memory>
+    ensures { IfOk result (λ text. string_bytes text ≡ in_line fault.now line) }
+{
+    format!(in alloc; "{fault} line {line}")
+}
+
+/// A fault of the parser as a refusal, with its line.
+fn parse_refusal(tokens: &[Token], fault: ParseFault) -> Refusal
+    ensures { result ≡ parse_refusal tokens.now fault }
+{
+    match fault {
+        ParseFault::Syntax { at } | ParseFault::TooDeep { at } => {
+            let line = line_at(tokens, at);
+            Refusal::Parse { fault, line }
+        }
+        ParseFault::Memory => Refusal::Memory,
+    }
+}
+
+/// The program of a text.
+fn read_program(alloc: Global, text: &[u8]) -> Result<Program, Refusal>
+    ensures program { IfOk result (IsProgramText text.now) }
+    ensures refused { IfErr result (λ why. why ≢ Refusal.Memory → IsRefusedFor text.now why) }
+    ensures only_program { (program : Program) → IsProgramText text.now program
+        → result ≢ Err Refusal.Memory → result ≡ Ok program }
+{
+    let tokens = lex(alloc, text)?;
+    match parse(alloc, tokens.as_slice(), text) {
+        Ok(program) => Ok(program),
+        Err(fault) => Err(parse_refusal(tokens.as_slice(), fault)),
+    }
+}
+
 /// Reads a source.
 pub(crate) fn read_source(alloc: Global, text: &[u8]) -> Result<Early, Refusal>
     ensures source { IfOk result (IsEarlySource text.now) }
     ensures refused { IfErr result (λ why. why ≢ Refusal.Memory → IsRefusedFor text.now why) }
 {
-    let tokens = lex(alloc, text)?;
-    Ok(parse(alloc, text, tokens.as_slice())?)
+    let program = read_program(alloc, text)?;
+    Ok(early_of(alloc, &program)?)
 }

@@ -93,13 +93,18 @@ fn runs_are_reported(rt: HostRuntime) -> Result<(), Fail> {
         ),
         ("", "refused early NotYet\n", Status::SourceRefused),
         (
-            "int main() { return 1 * ; }",
+            "int main() { int n = 1; return n; }",
             "refused early NotYet\n",
             Status::SourceRefused,
         ),
         (
-            "int main() { return 0; } }",
-            "refused early NotYet\n",
+            "int main()\n{ return 1 * ; }",
+            "refused parse Syntax at 8 line 2\n",
+            Status::SourceRefused,
+        ),
+        (
+            "int main() {\n",
+            "refused parse Syntax at 5 line 1\n",
             Status::SourceRefused,
         ),
         (
@@ -123,6 +128,8 @@ fn words_are_refused(rt: HostRuntime) -> Result<(), Fail> {
         ("run", "words refused at 2\n", Status::WordsRefused),
         ("run -f", "words refused at 2\n", Status::WordsRefused),
         ("run f.cc 5", "words refused at 3\n", Status::WordsRefused),
+        ("message", "words refused at 2\n", Status::WordsRefused),
+        ("message g.cc", "no file g.cc\n", Status::NoFile),
         ("run g.cc", "no file g.cc\n", Status::NoFile),
     ] {
         let (written, ended) = answer(&rt, rt.alloc(), &Case::of(words, EMPTY))?;
@@ -152,5 +159,32 @@ fn failing_calls_are_named(rt: HostRuntime) -> Result<(), Fail> {
     }
     assert_eq!(rt; Status::IntCount.number(), 11);
     assert_eq!(rt; Word::new(rt.alloc(), "f.cc")?.as_text(), "f.cc");
+    Ok(())
+}
+
+#[test]
+fn messages_are_listed(rt: HostRuntime) -> Result<(), Fail> {
+    for (source, text, status) in [
+        ("", "== messages 0\n", Status::Done),
+        (
+            "R\x01\x05\0\0\0\0\0\0\0\x01\0\0\0\x05\0",
+            "reply to 0 from 1 ticket 5 void\n== messages 1\n",
+            Status::Done,
+        ),
+        (
+            "R\x01\x05\0\0\0\0\0\0\0\x01\0\0\0\x05\x04",
+            "no BadTag at 15\n",
+            Status::No,
+        ),
+        (
+            "R\x01\x05\0\0\0\0\0\0\0\x01\0\0\0\x05\0R\x01",
+            "no Short at 18\n",
+            Status::No,
+        ),
+    ] {
+        let (written, ended) = answer(&rt, rt.alloc(), &Case::of("message f.cc", source))?;
+        assert_eq!(rt; written.as_slice(), text.as_bytes());
+        assert!(rt; ended == status);
+    }
     Ok(())
 }

@@ -1,0 +1,1 @@
+int main() { int a = 1, b, *c = NULL; C d(1, 2), e; sync int f; }

@@ -1,0 +1,1 @@
+global class C { }; struct D { int a; }; int main() { }

@@ -1,0 +1,1 @@
+sync int *f(int a) { }

@@ -1,0 +1,1 @@
+class C { C(int a, C *b) { } };

@@ -1,0 +1,1 @@
+class C { atomic void f() { } int *g() { } };

@@ -1,0 +1,1 @@
+int main() { par { a = 1; { } par { } } }

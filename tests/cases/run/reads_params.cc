@@ -1,0 +1,1 @@
+int f(int a, sync int b, C *global c) { }

@@ -1,0 +1,1 @@
+int main() { int *a; int *sync b; C *global c; C *global sync d; C *sync global e; }

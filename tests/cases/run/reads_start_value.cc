@@ -1,0 +1,1 @@
+int main() { int a[2], b = 1; C c(); }

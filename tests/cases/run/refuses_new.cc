@@ -1,0 +1,1 @@
+int main() { p = new [2]; }

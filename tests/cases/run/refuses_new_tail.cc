@@ -1,0 +1,1 @@
+int main() { p = new C(1) ->x; }

@@ -1,0 +1,1 @@
+int main() { parfor (i = 0; i < 3; i++) ; }
