@@ -1,0 +1,13 @@
+//! Well-formed programs.
+//!
+//! [`check`] answers the broken static rule with the least line, and at one line with the least number; or a [`Checked`], which
+//! keeps that its program is spelled by some tokens and breaks no rule, and holds the core program that the definition makes of it.
+//!
+//! `Program` in `specs/` says which programs are well formed, and `Elaboration` what is made of one. The rules are this project's
+//! own.
+#![tactic(auto)]
+
+mod checked;
+mod elaboration;
+
+pub use checked::{Checked, check};
