@@ -1,5 +1,7 @@
 -- The answer of the rules of sharing: which of several broken ones is named.
-use Rattle.std.specs.Prelude.{◌≡◌, ℕ, Bool, false, ◌==◌, nat_lt, if◌then◌else◌, List, [], ◌∷◌, All, Contains, Option, Some, None}
+use Rattle.std.specs.Prelude.{◌≡◌, Bool, false, ◌==◌, nat_lt, if◌then◌else◌, List, [], ◌∷◌, All, Contains, Option, Some, None}
+use Rattle.cc_tree.specs.declared.declarations.Program.{Program}
+use Rattle.cc_types.specs.Program.{rules_shared}
 use Rattle.cc_scopes.specs.declared.sharing.Share.{Share}
 use Rattle.cc_scopes.specs.Sharing.{share_number}
 use Rattle.sharing_check.specs.declared.answer.Sharing.{Sharing}
@@ -33,3 +35,7 @@ answer (Some share) = Shared share.rule share.line
 -- the answer for the rules that are broken
 abbrev pub sharing_of : List Share → Sharing
 sharing_of shares = answer (least shares)
+
+-- the answer for a program
+abbrev pub sharing : Program → Sharing
+sharing p = sharing_of (rules_shared p)

@@ -8,8 +8,10 @@
 #![tactic(auto)]
 
 mod answer;
+mod program;
 
 pub use answer::{Sharing, least, sharing_of};
+pub use program::sharing;
 
 #[cfg(test)]
 mod tests;
