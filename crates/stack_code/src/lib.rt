@@ -1,0 +1,19 @@
+//! The code that programs are laid out in: made instruction by instruction, checked, and looked up in constant time.
+#![tactic(auto)]
+
+mod circles;
+mod close;
+mod code;
+mod depths;
+mod draft;
+mod instr;
+mod maker;
+mod targets;
+
+pub use close::CodeFault;
+pub use code::Code;
+pub use instr::Instr;
+pub use maker::CodeMaker;
+
+#[cfg(test)]
+mod tests;
