@@ -1,0 +1,9 @@
+//! The listing of stack code as text.
+#![tactic(auto)]
+
+mod lines;
+
+pub use lines::listing;
+
+#[cfg(test)]
+mod tests;
