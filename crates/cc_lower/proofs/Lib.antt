@@ -1,0 +1,8 @@
+pub mod CopyLaws
+pub mod Views
+pub mod Pieces
+pub mod Plain
+pub mod EmittedLaws
+pub mod ProgramLaws
+pub mod OneFunction
+pub mod Kept
