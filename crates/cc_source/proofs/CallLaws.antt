@@ -1,0 +1,148 @@
+-- Arguments and calls.
+use Rattle.std.proofs.Common.{◌≡◌, ℕ, suc, ◌+◌, Bool, true, false, cond, List, [], ◌∷◌, ◌++◌, length, Option, Some, None, refl, sym, ◌∙◌, arith, length-append}
+use Rattle.std.proofs.lemmas.Bool.{eqb-true}
+use Rattle.std.proofs.lemmas.Option.{none-some}
+use Rattle.std.specs.Prelude.{slice_get, not, ◌==◌}
+use Rattle.cc_core.specs.declared.expression.Expression.{Expression}
+use Rattle.cc_core.specs.declared.expression.Expression.TheVariants as e
+use Rattle.cc_core.specs.declared.expression.How.TheVariants as how
+use Rattle.cc_core.specs.Core.{Shapes}
+use Rattle.cc_names.specs.declared.declarations.FunId.{FunId}
+use Rattle.cc_names.specs.declared.rule.StaticRule.{StaticRule}
+use Rattle.cc_typing.specs.declared.calls.Args.{Args}
+use Rattle.cc_typing.specs.declared.calls.Callee.{Callee}
+use Rattle.cc_typing.specs.declared.calls.Callee.TheVariants as callee
+use Rattle.cc_scopes.specs.declared.meaning.Meaning.{Meaning}
+use Rattle.cc_scopes.specs.declared.meaning.Meaning.TheVariants as m
+use Rattle.cc_scopes.specs.declared.tables.Signature.{Signature}
+use Rattle.cc_scopes.specs.declared.typed.Operand.{Operand}
+use Rattle.cc_scopes.specs.declared.typed.Typed.{Typed}
+use Rattle.cc_scopes.specs.declared.typed.Typed.TheVariants as typed
+use Rattle.cc_scopes.specs.declared.types.Ty.{Ty}
+use Rattle.cc_scopes.specs.declared.types.Ty.TheVariants as ty
+use Rattle.cc_scopes.specs.Scope.{Context}
+use Rattle.cc_typing.specs.Calls.{no_args, object_passed, passed, with_arg, args_rule, callee_rule, rule_or, call_rule, is_remote, call_term, enter, entered}
+use Rattle.cc_typing.specs.Calls.{given as value_given, entered_unless, called_as, called, called_name, call_named}
+use Rattle.cc_source.proofs.Runs.{IfThere, Anything, given, next, done}
+use Rattle.cc_source.proofs.FitLaws.{width_of, one_more, call_fits, this_fits}
+use Rattle.cc_source.proofs.Fits.{ExpressionFits, ExpressionsFit}
+use Rattle.cc_source.proofs.Sound.{HasParams, Agree, Reads, OperandFits, TypedFits}
+use Rattle.cc_source.proofs.StateLaws.{block_runs, call_runs}
+use Rattle.cc_source.proofs.ScopeLaws.{broken_runs, decay_runs}
+
+-- ---- arguments
+
+abbrev pub ArgsFit : Shapes → ℕ → Args → Type 0
+ArgsFit h n a = ExpressionsFit h n a.terms × (length a.types ≡ length a.terms)
+
+same_more : {A B : Type 0} (xs : List A) (ys : List B) (x : A) (y : B) → length xs ≡ length ys → length (xs ++ x ∷ []) ≡ length (ys ++ y ∷ [])
+same_more xs ys x y is =
+    let a : length (xs ++ x ∷ []) ≡ length xs + 1 = length-append xs (x ∷ []) in
+    let b : length (ys ++ y ∷ []) ≡ length ys + 1 = length-append ys (y ∷ []) in
+    omega (arith, a, b, is)
+
+pub no_args_fit : (h : Shapes) (n : ℕ) → ArgsFit h n no_args
+no_args_fit h n = (tt, refl)
+
+pub with_arg_fits : (h : Shapes) (n : ℕ) (a : Option Args) (v : Option Operand) → IfThere (ArgsFit h n) a → IfThere (OperandFits h n) v
+    → IfThere (ArgsFit h n) (with_arg a v)
+with_arg_fits h n None v p q = tt
+with_arg_fits h n (Some a) None p q = tt
+with_arg_fits h n (Some a) (Some v) p q = (one_more h n a.terms v.term p.0 q, same_more a.types a.terms v.ty v.term p.1)
+
+pub passed_runs : (h : Shapes) (n : ℕ) (cx : Context) (t : Typed) → Reads n (TypedFits h n t) (passed cx t) (IfThere (OperandFits h n))
+passed_runs h n cx (typed.Object o) = done (Some (object_passed o)) (λ x. x)
+passed_runs h n cx typed.Broken = decay_runs h n cx typed.Broken
+passed_runs h n cx typed.Spoiled = decay_runs h n cx typed.Spoiled
+passed_runs h n cx (typed.Value v) = decay_runs h n cx (typed.Value v)
+passed_runs h n cx (typed.This class remote) = decay_runs h n cx (typed.This class remote)
+passed_runs h n cx (typed.Constant term value) = decay_runs h n cx (typed.Constant term value)
+passed_runs h n cx (typed.Place p) = decay_runs h n cx (typed.Place p)
+passed_runs h n cx (typed.Array p k) = decay_runs h n cx (typed.Array p k)
+
+-- ---- the rules of a call
+
+counted : (k m : ℕ) (b : Bool) → (k == m) ≡ b → (x : Option StaticRule) (rule : StaticRule) → cond (not b) (Some rule) x ≡ None → k ≡ m
+counted k m true is x rule none = eqb-true k m is
+counted k m false is x rule none = absurd (none-some rule (sym none))
+
+pub args_counted : (params types : List Ty) → args_rule params types ≡ None → length types ≡ length params
+unfolding args_rule
+args_counted params types none = counted (length types) (length params) (length types == length params) refl _ _ none
+
+first_none : (a b : Option StaticRule) → rule_or a b ≡ None → a ≡ None
+first_none None b is = refl
+first_none (Some rule) b is = is
+
+pub call_counted : (g : Signature) (remote : Bool) (types : List Ty) → call_rule g remote types ≡ None → length types ≡ length g.params
+call_counted g remote types none = args_counted g.params types (first_none (args_rule g.params types) (callee_rule g remote) none)
+
+-- ---- a call
+
+abbrev pub CalleeFits : Shapes → ℕ → Callee → Type 0
+CalleeFits h n callee.Alone = Unit {0}
+CalleeFits h n (callee.On object) = ExpressionFits h n object
+CalleeFits h n (callee.Remote object) = ExpressionFits h n object
+
+module _ (h : Shapes) (n : ℕ) (cx : Context) where
+  counted_alone : (w k a : ℕ) → w ≡ k → a ≡ k → w ≡ 0 + a
+  counted_alone w k a p q = omega (arith, p, q)
+
+  counted_on : (w k a : ℕ) → w ≡ k → a ≡ k → suc w ≡ 1 + a
+  counted_on w k a p q = omega (arith, p, q)
+
+  call_term_fits : (f : FunId) (c : Callee) (g : Signature) (es : List Expression) → HasParams h f.0 g → CalleeFits h n c → ExpressionsFit h n es
+      → length es ≡ length g.params → ExpressionFits h n (call_term f c es)
+  call_term_fits f callee.Alone g es has p q is =
+      call_fits h n how.Alone f.0 es q (has.0, counted_alone _ _ _ (width_of es ∙ is) has.1)
+  call_term_fits f (callee.On x) g es has p q is =
+      call_fits h n how.On f.0 (x ∷ es) (p, q) (has.0, counted_on _ _ _ (width_of es ∙ is) has.1)
+  call_term_fits f (callee.Remote x) g es has p q is =
+      call_fits h n how.Remote f.0 (x ∷ es) (p, q) (has.0, counted_on _ _ _ (width_of es ∙ is) has.1)
+
+  given_fits : (t : Ty) (x : Expression) → ExpressionFits h n x → TypedFits h n (value_given t x)
+  given_fits ty.Unknown x p = tt
+  given_fits ty.Int x p = p
+  given_fits ty.Null x p = p
+  given_fits ty.Void x p = p
+  given_fits (ty.Pointer to remote) x p = p
+
+  enter_runs : (f : FunId) (b : Bool) {P : Type 0} → Reads n P (enter cx f b) Anything
+  enter_runs f true = block_runs n cx.line
+  enter_runs f false = call_runs n f cx.line
+
+  abbrev Given : Callee → List Ty → List Expression → Type 0
+  Given c types es = CalleeFits h n c × ArgsFit h n (record { types = types; terms = es })
+
+  entered_runs : (f : FunId) (g : Signature) (c : Callee) (types : List Ty) (es : List Expression) → HasParams h f.0 g
+      → length types ≡ length g.params → Reads n (Given c types es) (entered cx f g.result c es) (TypedFits h n)
+  unfolding entered
+  entered_runs f g c types es has is = next (enter_runs f (is_remote c)) (done (value_given g.result (call_term f c es)) (λ x.
+      given_fits g.result _ (call_term_fits f c g es has x.0 x.1.0 (sym x.1.1 ∙ is))))
+
+  entered_unless_runs : (r : Option StaticRule) (f : FunId) (g : Signature) (c : Callee) (types : List Ty) (es : List Expression) → HasParams h f.0 g
+      → call_rule g (is_remote c) types ≡ r → Reads n (Given c types es) (entered_unless r cx f g.result c es) (TypedFits h n)
+  entered_unless_runs (Some rule) f g c types es has is = broken_runs h n cx rule
+  entered_unless_runs None f g c types es has is = entered_runs f g c types es has (call_counted g (is_remote c) types is)
+
+  module _ (agree : Agree h cx.tables) where
+    called_as_runs : (o : Option Signature) (f : FunId) (c : Callee) (a : Args) → slice_get cx.tables.functions f.0 ≡ o
+        → Reads n (CalleeFits h n c × ArgsFit h n a) (called_as o cx f c a) (TypedFits h n)
+    called_as_runs None f c a is = broken_runs h n cx _
+    called_as_runs (Some g) f c a is =
+        entered_unless_runs (call_rule g (is_remote c) a.types) f g c a.types a.terms (agree.functions f.0 g is) refl
+
+    pub called_runs : (f : FunId) (c : Callee) (a : Args) → Reads n (CalleeFits h n c × ArgsFit h n a) (called cx f c a) (TypedFits h n)
+    called_runs f c a = called_as_runs (slice_get cx.tables.functions f.0) f c a refl
+
+    called_name_runs : (x : Meaning) (a : Args) → Reads n (ArgsFit h n a) (called_name cx x a) (TypedFits h n)
+    called_name_runs (m.Variable found) a = broken_runs h n cx _
+    called_name_runs (m.Field declared offset) a = broken_runs h n cx _
+    called_name_runs (m.Method f) a = given (λ x. (this_fits h n, x)) (called_runs f (callee.On e.This) a)
+    called_name_runs (m.Constant b z) a = broken_runs h n cx _
+    called_name_runs (m.Function f) a = given (λ x. (tt, x)) (called_runs f callee.Alone a)
+    called_name_runs m.Nothing a = broken_runs h n cx _
+
+    pub call_named_runs : (x : Meaning) (a : Option Args) → Reads n (IfThere (ArgsFit h n) a) (call_named cx x a) (TypedFits h n)
+    call_named_runs x None = done typed.Spoiled (λ p. tt)
+    call_named_runs x (Some a) = called_name_runs x a

@@ -1,0 +1,96 @@
+-- What holds of the tables, of the variables in scope, and of what an expression is.
+use Rattle.std.proofs.Common.{◌≡◌, ℕ, ◌<◌, ◌≤◌, List, [], ◌∷◌, length, Some}
+use Rattle.std.specs.Prelude.{slice_get}
+use Rattle.cc_ops.specs.Classes.{arity}
+use Rattle.cc_core.specs.Core.{Shapes, function_shape, class_shape}
+use Rattle.cc_scopes.specs.declared.meaning.Meaning.{Meaning}
+use Rattle.cc_scopes.specs.declared.meaning.Meaning.TheVariants as m
+use Rattle.cc_scopes.specs.declared.scope.Found.{Found}
+use Rattle.cc_scopes.specs.declared.state.Local.{Local}
+use Rattle.cc_scopes.specs.declared.state.State.{State}
+use Rattle.cc_scopes.specs.declared.tables.Class.{Class}
+use Rattle.cc_scopes.specs.declared.tables.Member.{Member}
+use Rattle.cc_scopes.specs.declared.tables.Member.TheVariants as member
+use Rattle.cc_scopes.specs.declared.tables.Signature.{Signature}
+use Rattle.cc_scopes.specs.declared.tables.Tables.{Tables}
+use Rattle.cc_scopes.specs.declared.typed.Operand.{Operand}
+use Rattle.cc_scopes.specs.declared.typed.Typed.{Typed}
+use Rattle.cc_scopes.specs.declared.typed.Typed.TheVariants as typed
+use Rattle.cc_scopes.specs.declared.types.Shape.{Shape}
+use Rattle.cc_scopes.specs.declared.types.Shape.TheVariants as shape
+use Rattle.cc_scopes.specs.Elab.{Elab}
+use Rattle.cc_source.proofs.Runs.{Runs}
+use Rattle.cc_source.proofs.Fits.{ExpressionFits}
+
+-- ---- the tables
+
+-- an array has 1 to 65,536 elements
+abbrev pub IsLength : ℕ → Type 0
+IsLength k = (1 ≤ k) × (k ≤ 65536)
+
+abbrev pub HasCells : Shape → Type 0
+HasCells shape.Cell = Unit {0}
+HasCells (shape.Array m) = IsLength m
+HasCells (shape.Object class) = Unit {0}
+
+abbrev pub MemberHasCells : Member → Type 0
+MemberHasCells (member.Field declared offset) = HasCells declared.shape
+MemberHasCells (member.Method f) = Unit {0}
+
+abbrev pub HasParams : Shapes → ℕ → Signature → Type 0
+HasParams h f g = (f < length h.functions) × (arity (function_shape h f).params ≡ length g.params)
+
+abbrev pub HasMaker : Shapes → ℕ → Class → Type 0
+HasMaker h c k = (c < length h.classes) × ((class_shape h c).params ≡ length k.constructor)
+
+abbrev pub MembersHaveCells : Class → Type 0
+MembersHaveCells k = (i : ℕ) (m : Member) → slice_get k.members i ≡ Some m → MemberHasCells m
+
+-- the functions and classes of the tables have these shapes
+pub record Agree (h : Shapes) (t : Tables) : Type 0 where
+  pub functions : (f : ℕ) (g : Signature) → slice_get t.functions f ≡ Some g → HasParams h f g
+  pub classes : (c : ℕ) (k : Class) → slice_get t.classes c ≡ Some k → HasMaker h c k
+  pub members : (c : ℕ) (k : Class) → slice_get t.classes c ≡ Some k → MembersHaveCells k
+
+-- ---- the variables in scope, of a function with n variables
+
+abbrev pub FoundFits : ℕ → Found → Type 0
+FoundFits n f = (f.number < n) × HasCells f.declared.shape
+
+abbrev pub LocalsFit : ℕ → List Local → Type 0
+LocalsFit n [] = Unit {0}
+LocalsFit n (l ∷ ls) = (l.number < n) × HasCells l.declared.shape × LocalsFit n ls
+
+abbrev pub MeaningFits : ℕ → Meaning → Type 0
+MeaningFits n (m.Variable found) = FoundFits n found
+MeaningFits n (m.Field declared offset) = HasCells declared.shape
+MeaningFits n (m.Method f) = Unit {0}
+MeaningFits n (m.Constant is_earlier value) = Unit {0}
+MeaningFits n (m.Function f) = Unit {0}
+MeaningFits n m.Nothing = Unit {0}
+
+-- the variables that are made so far are among them
+abbrev pub Within : ℕ → State → Type 0
+Within n s = length s.made ≤ n
+
+abbrev pub Keeps : ℕ → State → Type 0
+Keeps n s = LocalsFit n s.locals
+
+abbrev pub Reads : ℕ → {A : Type 0} → Type 0 → Elab A → (A → Type 0) → Type 0
+Reads n P p Q = Runs (Within n) (Keeps n) P p Q
+
+-- ---- what an expression is
+
+module _ (h : Shapes) (n : ℕ) where
+  abbrev pub OperandFits : Operand → Type 0
+  OperandFits v = ExpressionFits h n v.term
+
+  abbrev pub TypedFits : Typed → Type 0
+  TypedFits typed.Broken = Unit {0}
+  TypedFits typed.Spoiled = Unit {0}
+  TypedFits (typed.Value v) = ExpressionFits h n v.term
+  TypedFits (typed.This class remote) = Unit {0}
+  TypedFits (typed.Constant term value) = ExpressionFits h n term
+  TypedFits (typed.Place p) = ExpressionFits h n p.address
+  TypedFits (typed.Array p count) = ExpressionFits h n p.address × (1 ≤ count)
+  TypedFits (typed.Object o) = ExpressionFits h n o.address
