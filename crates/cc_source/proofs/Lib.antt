@@ -21,7 +21,9 @@ pub mod ItemLaws
 pub mod TableLaws
 pub mod ProgramLaws
 pub mod RangeLaws
-pub mod ConstructorLaws
 pub mod ShapeLaws
 pub mod LimitLaws
 pub mod MainLaws
+pub mod NumberLaws
+pub mod ConstantLaws
+pub mod SameTypes

@@ -27,7 +27,7 @@ classes_fine : (p : Program) → IsWellFormed p → AllByRecursion ClassIsFine (
 unfolding done_of
 classes_fine p well =
     items_shapes (shapes_of p) (names_of p.items) (tables_of (names_of p.items) p.items) (tables_fit p well) 0 0 nothing_done p.items nothing_yet
-    (file_keeps p well).items tt tt
+    (file_keeps p well).items tt
 
 pub core_functions_fit : (p : Program) → IsWellFormed p → AllByRecursion (λ f. IsFunShape f.shape) (core_program p).functions
 core_functions_fit p well =

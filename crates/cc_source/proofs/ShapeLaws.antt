@@ -1,7 +1,7 @@
 -- The shapes of classes and functions.
-use Rattle.std.proofs.Common.{◌≡◌, ℕ, zero, suc, ◌+◌, ◌*◌, ◌<◌, ◌≤◌, Bool, false, not, List, [], ◌∷◌, ◌++◌, length, map, Some, None, refl, sym, ap, subst, ◌∙◌, arith, length-append}
+use Rattle.std.proofs.Common.{◌≡◌, ℕ, zero, suc, ◌+◌, ◌*◌, ◌<◌, ◌≤◌, false, List, [], ◌∷◌, ◌++◌, length, map, Some, refl, sym, ap, subst, ◌∙◌, arith, length-append}
 use Rattle.std.proofs.lemmas.List.{length-map}
-use Rattle.std.specs.Prelude.{All, bytes_eq}
+use Rattle.std.specs.Prelude.{All}
 use Rattle.std.specs.List.{AllByRecursion}
 use Rattle.cc_ops.specs.Classes.{arity, size}
 use Rattle.cc_ops.specs.Shapes.{shape_of}
@@ -12,77 +12,42 @@ use Rattle.cc_core.specs.declared.program.Function.{Function as TextFunction}
 use Rattle.cc_core.specs.Core.{Shapes}
 use Rattle.cc_names.specs.Group.{parameter_rules, member_rules, class_rules, item_rules, member_lines, class_lines, method_lines, function_lines}
 use Rattle.cc_names.specs.Names.{NameTables}
-use Rattle.cc_names.specs.declared.rule.StaticRule.TheVariants as r
-use Rattle.cc_scopes.specs.declared.state.Local.{Local}
 use Rattle.cc_scopes.specs.declared.state.State.{State}
 use Rattle.cc_scopes.specs.declared.tables.Tables.{Tables}
 use Rattle.cc_scopes.specs.declared.types.Declared.{Declared}
 use Rattle.cc_scopes.specs.declared.types.Shape.{Shape}
 use Rattle.cc_scopes.specs.declared.types.Shape.TheVariants as shape
-use Rattle.cc_scopes.specs.Elab.{Elab}
 use Rattle.cc_scopes.specs.Scope.{Context}
 use Rattle.cc_tree.specs.declared.declarations.ClassDecl.{ClassDecl}
-use Rattle.cc_tree.specs.declared.declarations.Function.{Function}
 use Rattle.cc_tree.specs.declared.declarations.Item.{Item}
 use Rattle.cc_tree.specs.declared.declarations.Item.TheVariants as item
 use Rattle.cc_tree.specs.declared.declarations.Member.{Member}
 use Rattle.cc_tree.specs.declared.declarations.Member.TheVariants as member
-use Rattle.cc_tree.specs.declared.declarations.Param.{Param}
-use Rattle.cc_tree.specs.declared.statements.Stmt.{Stmt}
+use Rattle.cc_tree.specs.declared.statements.Decl.{Decl}
 use Rattle.cc_declared.specs.Slots.{field}
 use Rattle.cc_elaboration.specs.Declarations.{cells}
 use Rattle.cc_elaboration.specs.Statements.{at_line}
 use Rattle.cc_tables.specs.Tables.{outside}
 use Rattle.cc_functions.specs.declared.done.Done.{Done}
-use Rattle.cc_functions.specs.Functions.{begin, kinds_of, share_atomic, function_at, function}
-use Rattle.cc_functions.specs.Constructors.{in_constructor, constructor_at, constructor}
+use Rattle.cc_functions.specs.Functions.{begin, kinds_of, function}
+use Rattle.cc_functions.specs.Constructors.{constructor_at}
 use Rattle.cc_functions.specs.Items.{with_function, no_members, run_of, with_run, filled_runs, filled, member_name, field_member, function_member, member_by, members_from, class_item}
-use Rattle.cc_functions.specs.Items.{is_main, constant_item, function_item, class_id, after_constant, after_class, after_function, items_from}
+use Rattle.cc_functions.specs.Items.{constant_item, function_item, class_id, after_constant, after_class, after_function, items_from}
 use Rattle.stack_code.specs.Kept.{IsFunShape, IsClassShape}
-use Rattle.cc_source.proofs.Runs.{next}
-use Rattle.cc_source.proofs.Sound.{IsLength, HasCells, Agree, LocalsFit, Within, Reads}
+use Rattle.cc_source.proofs.Sound.{IsLength, HasCells, Agree, Within}
 use Rattle.cc_source.proofs.RuleLaws.{empty_before, empty_behind, few_params, rules_of_class}
-use Rattle.cc_source.proofs.ExpressionLaws.{constant_runs}
-use Rattle.cc_source.proofs.DeclaredLaws.{field_runs}
-use Rattle.cc_source.proofs.SimpleLaws.{note_if_runs}
-use Rattle.cc_source.proofs.FunctionLaws.{arity_is, nothing_made, parts_runs}
-use Rattle.cc_source.proofs.ConstructorLaws.{params_in_runs, sets_from_runs}
+use Rattle.cc_source.proofs.DeclaredLaws.{DeclaredFits, field_runs}
+use Rattle.cc_source.proofs.FunctionLaws.{arity_is}
 use Rattle.cc_source.proofs.CountLaws.{function_counts, last_counts, method_counts, members_classes}
 use Rattle.cc_source.proofs.ItemLaws.{FunctionIsFine, all_and_one}
 
--- ---- the variables in scope are among those that are made
+-- ---- fields, before which nothing is in scope
 
-abbrev Tidy : State → Type 0
-Tidy s = LocalsFit (length s.made) s.locals
-
-more_room : (n m : ℕ) (ls : List Local) → n ≤ m → LocalsFit n ls → LocalsFit m ls
-more_room n m [] le p = tt
-more_room n m (l ∷ ls) le p = let lt : l.number < n = p.0 in (omega (arith, lt, le), p.1, more_room n m ls le p.2)
-
-tidy_after : {A : Type 0} {P : Type 0} {p : Elab A} {Q : ℕ → A → Type 0} → ((n : ℕ) → Reads n P p (Q n)) → P → (s : State) → Tidy s
-    → Tidy (p s).1 × Q (length (p s).1.made) (p s).0
-tidy_after {p = p} r x s tidy =
-    let n = length (p s).1.made in
-    let same : Within n (p s).1 = omega arith in
-    let q = (r n).run s same in
-    q.1 x (more_room (length s.made) n s.locals q.0 tidy)
-
-module _ (h : Shapes) where
-  tidy_function : (cx : Context) → Agree h cx.tables → (m : Bool) (name : List ℕ) (f : Function) (s : State) → Tidy (function cx m name f s).1
-  unfolding function_at
-  tidy_function cx agree m name f s =
-      let here = at_line cx f.line in
-      let before = (share_atomic f.atomic here (begin s).1).1 in
-      (tidy_after {P = Unit {0}} (λ n. parts_runs h here agree n m f) tt before
-      (subst (λ ls. LocalsFit (length before.made) ls) (sym (nothing_made f.atomic here s)) tt)).0
-
-  tidy_constructor : (cx : Context) → Agree h cx.tables → (class : ClassDecl) (name : List ℕ) (params : List Param) (body : List Stmt) (line : ℕ) (s : State)
-      → Tidy (constructor cx class name params body line s).1
-  unfolding constructor_at
-  tidy_constructor cx agree class name params body line s =
-      let here = at_line (in_constructor cx) line in
-      (tidy_after {P = Unit {0}} (λ n. next (note_if_runs h n here (not (bytes_eq name class.name)) r.Constructor) (next (params_in_runs h n here class.remote params)
-      (sets_from_runs h n here agree [] body))) tt (begin s).1 tt).0
+field_has_cells : (h : Shapes) (cx : Context) → Agree h cx.tables → (d : Decl) (s : State) → DeclaredFits (field cx d (begin s).1).0
+field_has_cells h cx agree d s =
+    let n = length (field cx d (begin s).1).1.made in
+    let same : Within n (field cx d (begin s).1).1 = omega arith in
+    (((field_runs h n cx agree d {P = Unit {0}}).run (begin s).1 same).1 tt tt).1
 
 -- ---- a class so far
 
@@ -113,52 +78,48 @@ filled_fine c p = let q = some_runs c.cells p.runs p.many in record { runs = q.0
 
 module _ (h : Shapes) where
   members_shape : (cx : Context) → Agree h cx.tables → (class : ClassDecl) (d : Done) (c : TextShape) (ms : List Member) (s : State) (b : ℕ)
-      → member_rules ms ≡ [] → Tidy s → AllByRecursion (λ (r : CellRun). IsLength r.count) c.cells → length c.cells + length (member_lines ms) ≤ b
-      → c.params ≤ 8 → SoFar b (members_from cx class d c ms s).0.1 × Tidy (members_from cx class d c ms s).1
+      → member_rules ms ≡ [] → AllByRecursion (λ (r : CellRun). IsLength r.count) c.cells → length c.cells + length (member_lines ms) ≤ b
+      → c.params ≤ 8 → SoFar b (members_from cx class d c ms s).0.1
   unfolding field_member function_member constructor_at
-  members_shape cx agree class d c [] s b rules tidy runs many few = (record { runs = runs; many = omega (arith, many); few = few }, tidy)
-  members_shape cx agree class d c (member.Field f ∷ ms) s b rules tidy runs many few =
+  members_shape cx agree class d c [] s b rules runs many few = record { runs = runs; many = omega (arith, many); few = few }
+  members_shape cx agree class d c (member.Field f ∷ ms) s b rules runs many few =
       let here = at_line cx f.line in
-      let r = field here f s in
-      let q = tidy_after {P = Unit {0}} (λ n. field_runs h n here agree f) tt s tidy in
+      let r = field here f (begin s).1 in
       let l : length (c.cells ++ run_of r.0 ∷ []) ≡ length c.cells + 1 = length-append c.cells (run_of r.0 ∷ []) in
-      members_shape cx agree class d (with_run c r.0) ms r.1 b rules q.0
-      (all_and_one (λ (r : CellRun). IsLength r.count) c.cells (run_of r.0) runs (cells_within r.0.shape q.1)) (omega (arith, many, l)) few
-  members_shape cx agree class d c (member.Func f ∷ ms) s b rules tidy runs many few =
-      let name = member_name class.name f.name in
-      let r = function cx false name f s in
+      members_shape cx agree class d (with_run c r.0) ms r.1 b rules
+      (all_and_one (λ (r : CellRun). IsLength r.count) c.cells (run_of r.0) runs (cells_within r.0.shape (field_has_cells h here agree f s)))
+      (omega (arith, many, l)) few
+  members_shape cx agree class d c (member.Func f ∷ ms) s b rules runs many few =
+      let r = function cx false (member_name class.name f.name) f s in
       members_shape cx agree class (with_function d r.0) c ms r.1 b (empty_behind (parameter_rules f.params) (member_rules ms) rules)
-      (tidy_function h cx agree false name f s) runs (omega (arith, many)) few
-  members_shape cx agree class d c (member.Build name params body line ∷ ms) s b rules tidy runs many few =
+      runs (omega (arith, many)) few
+  members_shape cx agree class d c (member.Build name params body line ∷ ms) s b rules runs many few =
       let r = member_by (member.Build name params body line) cx class d c s in
       members_shape cx agree class d r.0.1 ms r.1 b (empty_behind (parameter_rules params) (member_rules ms) rules)
-      (tidy_constructor h cx agree class name params body line s) runs many
-      (few_params params (empty_before (parameter_rules params) (member_rules ms) rules))
+      runs many (few_params params (empty_before (parameter_rules params) (member_rules ms) rules))
 
   module _ (names : NameTables) (tables : Tables) (agree : Agree h tables) where
-    pub items_shapes : (k c : ℕ) (d : Done) (xs : List Item) (s : State) → item_rules xs ≡ [] → Tidy s → AllByRecursion ClassIsFine d.classes
+    pub items_shapes : (k c : ℕ) (d : Done) (xs : List Item) (s : State) → item_rules xs ≡ [] → AllByRecursion ClassIsFine d.classes
         → AllByRecursion ClassIsFine (items_from names tables (record { constants = k; classes = c; done = d }) xs s).0.done.classes
     unfolding after_constant after_class after_function class_item function_item constant_item
-    items_shapes k c d [] s rules tidy all = all
-    items_shapes k c d (item.Const name value line ∷ xs) s rules tidy all =
+    items_shapes k c d [] s rules all = all
+    items_shapes k c d (item.Const name value line ∷ xs) s rules all =
         let r = after_constant names tables (record { constants = k; classes = c; done = d }) value line s in
-        items_shapes r.0.constants r.0.classes r.0.done xs r.1 rules
-        (tidy_after {P = Unit {0}} (λ n. constant_runs h n (outside names tables k None line) agree value) tt s tidy).0 all
-    items_shapes k c d (item.Class class ∷ xs) s rules tidy all =
+        items_shapes r.0.constants r.0.classes r.0.done xs r.1 rules all
+    items_shapes k c d (item.Class class ∷ xs) s rules all =
         let r = after_class names tables (record { constants = k; classes = c; done = d }) class s in
         let cx = outside names tables k (Some (class_id c)) class.line in
         let keeps = rules_of_class class.members (empty_before (class_rules class.members) (item_rules xs) rules) in
         let few : length (member_lines class.members) ≤ 256 = keeps.few in
         let zero : 0 ≤ 8 = omega arith in
         let p = (members_from cx class d no_members class.members s).0 in
-        let q = members_shape cx agree class d no_members class.members s 256 keeps.members tidy tt (omega (arith, few)) zero in
-        items_shapes r.0.constants r.0.classes r.0.done xs r.1 (empty_behind (class_rules class.members) (item_rules xs) rules) q.1
+        let q = members_shape cx agree class d no_members class.members s 256 keeps.members tt (omega (arith, few)) zero in
+        items_shapes r.0.constants r.0.classes r.0.done xs r.1 (empty_behind (class_rules class.members) (item_rules xs) rules)
         (all_and_one ClassIsFine p.0.classes (filled p.1)
-        (subst (λ cs. AllByRecursion ClassIsFine cs) (sym (members_classes cx class d no_members class.members s)) all) (filled_fine p.1 q.0))
-    items_shapes k c d (item.Func f ∷ xs) s rules tidy all =
+        (subst (λ cs. AllByRecursion ClassIsFine cs) (sym (members_classes cx class d no_members class.members s)) all) (filled_fine p.1 q))
+    items_shapes k c d (item.Func f ∷ xs) s rules all =
         let r = after_function names tables (record { constants = k; classes = c; done = d }) f s in
-        items_shapes r.0.constants r.0.classes r.0.done xs r.1 (empty_behind (parameter_rules f.params) (item_rules xs) rules)
-        (tidy_function h (outside names tables k None f.line) agree (is_main f.name) f.name f s) all
+        items_shapes r.0.constants r.0.classes r.0.done xs r.1 (empty_behind (parameter_rules f.params) (item_rules xs) rules) all
 
 -- ---- the shapes that a compiler wants
 
