@@ -21,16 +21,17 @@ pub record IsMet (p : Program) (t : Name) (s r : Config) (n after : Numbers) : T
   pub numbers : after ≡ numbers_after n (change p t s l ask k found).new (change p t s l ask k found).effect.objects
 
 -- thread t, which is l, takes the value of the thread that it asked: nothing is made
-pub record IsJoined (t : Name) (s r : Config) (n after : Numbers) : Type 0 where
+pub record IsJoined (p : Program) (t : Name) (s r : Config) (n after : Numbers) : Type 0 where
   pub l : Thread
   pub live : fin.get s.threads t ≡ Some (Live l)
-  pub state : State
-  pub is : r ≡ record s { threads = fin.insert s.threads t state }
+  pub thread : Thread
+  pub home : thread.home ≡ l.home
+  pub is : r ≡ record s { threads = fin.insert s.threads t (settle p thread) }
   pub numbers : after ≡ n
 
 pub data IsNumberedStep (p : Program) (t : Name) (s r : Config) (n after : Numbers) : Type 0 where
   Met : IsMet p t s r n after → IsNumberedStep p t s r n after
-  Joined : IsJoined t s r n after → IsNumberedStep p t s r n after
+  Joined : IsJoined p t s r n after → IsNumberedStep p t s r n after
 
 moved : (r q : Config) → Moves r ≡ Moves q → q ≡ r
 moved r q e = cc
@@ -50,7 +51,8 @@ module _ (p : Program) (t : Name) (s r : Config) (n : Numbers) where
     joined k (Some (Ended v)) e = Joined (record {
       l = l;
       live = live;
-      state = settle p (record l { term = (k (record { values = v ∷ []; made = [] })).left; asked = None });
+      thread = record l { term = (k (record { values = v ∷ []; made = [] })).left; asked = None };
+      home = refl;
       is = moved _ _ e;
       numbers = refl;
     })

@@ -2,3 +2,5 @@ pub mod Lists
 pub mod Changes
 pub mod Free
 pub mod Numbers
+pub mod Counts
+pub mod Homes

@@ -29,10 +29,10 @@ module _ {A : Type 0} where
 abbrev names_in : Option (List Name) → List Name
 names_in o = elim o [ None ↦ [] | Some ts ↦ ts ]
 
-listed_same : (lists : Map (List Name)) (q x : Name) → listed (listing lists q x) q ≡ listed lists q ++ x ∷ []
+pub listed_same : (lists : Map (List Name)) (q x : Name) → listed (listing lists q x) q ≡ listed lists q ++ x ∷ []
 listed_same lists q x = ap names_in (get_same lists q (listed lists q ++ x ∷ []))
 
-listed_other : (lists : Map (List Name)) (q x r : Name) → r ≢ q → listed (listing lists q x) r ≡ listed lists r
+pub listed_other : (lists : Map (List Name)) (q x r : Name) → r ≢ q → listed (listing lists q x) r ≡ listed lists r
 listed_other lists q x r ne = ap names_in (get_other lists q (listed lists q ++ x ∷ []) r ne)
 
 pub listed_empty : (q : Name) → listed fin.empty q ≡ []
@@ -42,7 +42,7 @@ module _ (lists : Map (List Name)) (q x : Name) where
   at : (r : Name) → r ≡ q → listed (listing lists q x) r ≡ listed lists q ++ x ∷ []
   at r e = ap (listed (listing lists q x)) e ∙ listed_same lists q x
 
-  case : (r : Name) (k : ℕ) (y : Name) → IsListed (listing lists q x) r k y
+  pub case : (r : Name) (k : ℕ) (y : Name) → IsListed (listing lists q x) r k y
       → IsListed lists r k y ⊎ ((r ≡ q) × (k ≡ length (listed lists q)) × (y ≡ x))
   case r k y h = ⊎_elim
       (λ (e : r ≡ q). ⊎_elim

@@ -19,13 +19,13 @@ use Rattle.run_numbers.proofs.Free.{threads_free, effect_free, first_parameters_
 
 module _ (p : Program) (t : Name) (s r : Config) (n after : Numbers) where
   module _ (free : NamesAreFree s) (m : IsMet p t s r n after) where
-    abbrev made : Change
+    abbrev pub made : Change
     made = change p t s m.l m.ask m.k m.found
 
-    abbrev stepped : Map State
+    abbrev pub stepped : Map State
     stepped = fin.insert s.threads t (settle p made.thread)
 
-    new_free : (j : ℕ) → m.l.threads ≤ j → fin.get stepped (j ∷ t) ≡ None
+    pub new_free : (j : ℕ) → m.l.threads ≤ j → fin.get stepped (j ∷ t) ≡ None
     new_free j h = get_other s.threads t (settle p made.thread) (j ∷ t) (not_longer j t) ∙ free.threads t m.l m.live j h
 
     met_threads : AreNumbered n.threads s.threads → AreNumbered after.threads r.threads
@@ -36,13 +36,13 @@ module _ (p : Program) (t : Name) (s r : Config) (n after : Numbers) where
         subst (λ (a : Numbers). AreNumbered a.threads r.threads) (sym m.numbers)
         (subst (λ (c : Config). AreNumbered (list_threads n.threads made.new) c.threads) (sym m.is) all)
 
-    abbrev written : Map Object
+    abbrev pub written : Map Object
     written = write_all s.objects made.effect.writes
 
-    own_free : (j : ℕ) → m.l.objects ≤ j → fin.get written (j ∷ t) ≡ None
+    pub own_free : (j : ℕ) → m.l.objects ≤ j → fin.get written (j ∷ t) ≡ None
     own_free j h = writes_none made.effect.writes s.objects (j ∷ t) (free.objects t m.l m.live j h)
 
-    copy_free : fin.get written (0 ∷ m.l.threads ∷ t) ≡ None
+    pub copy_free : fin.get written (0 ∷ m.l.threads ∷ t) ≡ None
     copy_free =
         writes_none made.effect.writes s.objects (0 ∷ m.l.threads ∷ t)
         (free.no_objects (m.l.threads ∷ t) (free.threads t m.l m.live m.l.threads (omega arith)) 0)
@@ -55,10 +55,10 @@ module _ (p : Program) (t : Name) (s r : Config) (n after : Numbers) where
         subst (λ (a : Numbers). AreNumbered a.objects r.objects) (sym m.numbers)
         (subst (λ (c : Config). AreNumbered (list_objects n.objects made.effect.objects) c.objects) (sym m.is) all)
 
-  module _ (m : IsJoined t s r n after) where
+  module _ (m : IsJoined p t s r n after) where
     joined_threads : AreNumbered n.threads s.threads → AreNumbered after.threads r.threads
     joined_threads are =
-        let all : AreNumbered n.threads (fin.insert s.threads t m.state) = replaced n.threads s.threads are t (Live m.l) m.state m.live in
+        let all : AreNumbered n.threads (fin.insert s.threads t (settle p m.thread)) = replaced n.threads s.threads are t (Live m.l) (settle p m.thread) m.live in
         subst (λ (a : Numbers). AreNumbered a.threads r.threads) (sym m.numbers)
         (subst (λ (c : Config). AreNumbered n.threads c.threads) (sym m.is) all)
 
