@@ -1,5 +1,5 @@
 -- Which answers are given when.
-use Rattle.std.proofs.Common.{◌≡◌, ℕ, List, [], ◌∷◌, ◌++◌, ◌⊎◌, ⊎_elim, inl, inr, Some, None, subst, sym, ap, ◌∙◌, refl}
+use Rattle.std.proofs.Common.{◌≡◌, ◌≢◌, ℕ, List, [], ◌++◌, ◌⊎◌, ⊎_elim, inl, inr, Some, None, subst, sym, ap, ◌∙◌, refl}
 use Rattle.std.specs.Prelude.{Option, codes, decimal}
 use Rattle.std.specs.List.{flat_map}
 use Rattle.global_ptr.specs.declared.ends.Standing.{Standing}
@@ -10,30 +10,61 @@ use Rattle.rsr_message.specs.Lines.{line_of, fault_name}
 use Rattle.rsr_message.specs.Requests.{version_1}
 use Rattle.rsr_message.specs.Listings.{Lists, FirstFault}
 use Rattle.rsr_message.specs.Streams.{IsStream}
-use Rattle.cc_core.specs.Report.{report, line, Determinate}
+use Rattle.cc_code.specs.Code.{Code as Instructions}
+use Rattle.cc_code.specs.Layout.{layout}
+use Rattle.cc_core.specs.declared.program.Program.{Program as CoreProgram}
+use Rattle.cc_core.specs.View.{program_of}
+use Rattle.cc_core.specs.Report.{report, line, sharing_text}
+use Rattle.cc_tree.specs.declared.declarations.Program.{Program}
+use Rattle.cc_types.specs.Program.{core_program, rules_shared}
+use Rattle.code_listing.specs.Listing.{listing_of}
+use Rattle.sharing_check.specs.declared.answer.Sharing.{Sharing as Found}
+use Rattle.sharing_check.specs.Sharing as rules
 use Rattle.ccpp_edge.specs.Count.{Rose}
 use Rattle.ccpp_edge.specs.Shelf.{Files, Holds, HoldsIfTold, Lacks}
 use Rattle.ccpp_top.specs.declared.answer.Answer.{Answer}
 use Rattle.ccpp_top.specs.declared.command.Command.{Command}
-use Rattle.ccpp_top.specs.declared.command.Command.TheVariants.{Run, Message}
+use Rattle.ccpp_top.specs.declared.command.Command.TheVariants.{Run, Check, Share, Code, Message}
 use Rattle.ccpp_top.specs.declared.early.Early.{Early}
 use Rattle.ccpp_top.specs.declared.status.Status.{Status}
 use Rattle.ccpp_top.specs.declared.status.Status.TheVariants as status
 use Rattle.ccpp_top.specs.declared.status.Status.TheVariants.{Done, SourceRefused, WordsRefused, ReadFault, No, NoFile}
 use Rattle.ccpp_top.specs.Early.{core_of}
+use Rattle.ccpp_top.specs.Checks.{OnSource, refused, said, SaysOk, ok, SaysSharing, sharing, SaysCode, listed as code_listed, shown}
+use Rattle.ccpp_top.specs.Form.{early_of}
 use Rattle.ccpp_top.specs.declared.source.Refusal.{Refusal}
-use Rattle.ccpp_top.specs.Source.{IsEarlySource, IsNoEarlySource, IsRefusedFor, refusal_text}
+use Rattle.ccpp_top.specs.declared.source.Refusal.TheVariants.{Memory}
+use Rattle.ccpp_top.specs.Source.{IsSource, IsRefusedFor, refusal_text}
 use Rattle.ccpp_top.specs.Status.{status_of}
 use Rattle.ccpp_top.specs.Messages.{Messages, listed, none}
 use Rattle.ccpp_top.specs.Words.{AskFor, IsWrongAt, file_of}
 use Rattle.ccpp_top.proofs.SourceLaws.{no_source}
-use Rattle.ccpp_top.specs.Answers.{RunsTo, step_limit, Answers, refused, reported, AnswersTo, Says, words_refused, answered, no_file, read_fault, AskToRun, AskForMessages, HasRun, Cause}
+use Rattle.ccpp_top.proofs.WordsLaws.{one_command}
+use Rattle.ccpp_top.specs.Answers.{RunsTo, step_limit, Reports, not_yet, reported, AnswersTo, RunEnds, Says, words_refused, answered, no_file, read_fault, Cause}
 
-pub was_refused : (source : List ℕ) (why : Refusal) (text : List ℕ) → IsRefusedFor source why → text ≡ refusal_text why → (a : Answer) → a ≡ record { text = line text; status = SourceRefused } → Answers source a.text a.status
-was_refused source why text for is a e = rw e (subst (λ t. Answers source (line t) SourceRefused) (sym is) (refused why for))
+pub was_refused : (Says : Program → (text : List ℕ) → Status → Type 0) (source : List ℕ) (why : Refusal) → (why ≢ Memory → IsRefusedFor source why) → (a : Answer) → (why ≢ Memory) × (a ≡ record { text = line (refusal_text why); status = SourceRefused }) → OnSource Says source a.text a.status
+was_refused Says source why for a is = rw is.1 (refused why (for is.0))
 
-pub was_run : (source : List ℕ) (early : Early) (output : List ℕ) (end : Standing) → IsEarlySource source early → RunsTo (core_of early) [] step_limit output end → (a : Answer) → a ≡ record { text = report output end Determinate; status = status_of end } → Answers source a.text a.status
-was_run source early output end is runs a e = rw e (reported is runs)
+pub was_said : (Says : Program → (text : List ℕ) → Status → Type 0) (source : List ℕ) (program : Program) → IsSource source program → (a : Answer) → Says program a.text a.status → OnSource Says source a.text a.status
+was_said Says source program is a says = said program is says
+
+pub was_ok : (program : Program) (a : Answer) → a ≡ record { text = line (codes "ok"); status = Done } → SaysOk program a.text a.status
+was_ok program a e = rw e ok
+
+pub was_sharing : (program : Program) (found : Found) → found ≡ rules.sharing_of (rules_shared program) → (a : Answer) → a ≡ record { text = line (sharing_text (shown found)); status = Done } → SaysSharing program a.text a.status
+was_sharing program found is a e = rw (e, is) sharing
+
+pub was_code : (program : Program) (core : CoreProgram) (code : Instructions) (start text : List ℕ) → core ≡ core_program program → code ≡ layout (program_of core) → start ≡ [] → text ≡ start ++ listing_of code → SaysCode program text Done
+was_code program core code start text same lowered empty is =
+    let all : code ≡ layout (program_of (core_program program)) = lowered ∙ ap (λ x. layout (program_of x)) same in
+    let e : text ≡ listing_of (layout (program_of (core_program program))) = is ∙ (ap (λ s. s ++ listing_of code) empty ∙ ap listing_of all) in
+    subst (λ t. SaysCode program t Done) (sym e) code_listed
+
+pub was_run : (program : Program) (early : Early) (output : List ℕ) (end : Standing) (found : Found) → early_of program ≡ Some early → RunsTo (core_of early) [] step_limit output end → found ≡ rules.sharing_of (rules_shared program) → (a : Answer) → a ≡ record { text = report output end (shown found); status = status_of end } → Reports program a.text a.status
+was_run program early output end found form runs is a e = rw (e, is) (reported form runs)
+
+pub was_not_yet : (program : Program) → early_of program ≡ None → (a : Answer) → a ≡ record { text = line (codes "refused early NotYet"); status = SourceRefused } → Reports program a.text a.status
+was_not_yet program form a e = rw e (not_yet form)
 
 pub was_listed : (bytes : List ℕ) (l : Listing) (text : List ℕ) → Lists version_1 bytes l → text ≡ l.lines ++ line (codes "== messages " ++ decimal l.messages) → Messages bytes text Done
 was_listed bytes l text lists is =
@@ -43,6 +74,17 @@ was_listed bytes l text lists is =
 
 pub was_no_list : (bytes : List ℕ) (fault : MessageFault) (at : ℕ) (text : List ℕ) → (IsStream version_1 bytes → ⊥) → FirstFault version_1 bytes fault at → text ≡ codes "no " ++ (fault_name fault ++ (codes " at " ++ decimal at)) → (a : Answer) → a ≡ record { text = line text; status = No } → Messages bytes a.text a.status
 was_no_list bytes fault at text no_list first is a e = rw e (subst (λ t. Messages bytes (line t) No) (sym is) (none fault at no_list first))
+
+-- ---- what is said with the status 0
+
+ok_done : (program : Program) (text : List ℕ) (end : Status) → SaysOk program text end → end ≡ Done
+ok_done program text end ok = refl
+
+sharing_done : (program : Program) (text : List ℕ) (end : Status) → SaysSharing program text end → end ≡ Done
+sharing_done program text end sharing = refl
+
+code_done : (program : Program) (text : List ℕ) (end : Status) → SaysCode program text end → end ≡ Done
+code_done program text end code_listed = refl
 
 module _ (words : List (List ℕ)) (held : Option Files) (before after : ℕ) where
   pub wrong_words : (place : ℕ) (text : List ℕ) → IsWrongAt words place → text ≡ codes "words refused at " ++ decimal place → (a : Answer) → a ≡ record { text = line text; status = WordsRefused } → Says words held before after a.text a.status
@@ -61,27 +103,31 @@ module _ (words : List (List ℕ)) (held : Option Files) (before after : ℕ) wh
 
   -- ---- the causes of statuses
 
-  run_cause : (sink_before sink_after : ℕ) (end : Standing) → HasRun words held (status_of end) → Cause words held before after sink_before sink_after (status_of end)
-  run_cause sink_before sink_after (standing.Done v) has = inl has
-  run_cause sink_before sink_after (standing.Blocked k) has = has
-  run_cause sink_before sink_after (standing.Fault fault) has = has
-  run_cause sink_before sink_after (standing.Limit n) has = has
+  run_cause : (sink_before sink_after : ℕ) (source : List ℕ) (file : List ℕ) → AskFor words (Run file) → HoldsIfTold held file source → (end : Standing) → RunEnds source (status_of end) → Cause words held before after sink_before sink_after (status_of end)
+  run_cause sink_before sink_after source file asked holds (standing.Done v) ends = (Run file, source, asked, holds, ends)
+  run_cause sink_before sink_after source file asked holds (standing.Blocked k) ends = (file, source, asked, holds, ends)
+  run_cause sink_before sink_after source file asked holds (standing.Fault fault) ends = (file, source, asked, holds, ends)
+  run_cause sink_before sink_after source file asked holds (standing.Limit n) ends = (file, source, asked, holds, ends)
 
-  refused_cause : (source : List ℕ) (why : Refusal) → IsRefusedFor source why → IsNoEarlySource source
-  refused_cause source why for = no_source source why for
-
-  answer_cause : (sink_before sink_after : ℕ) (source : List ℕ) → AskToRun words held source → (text : List ℕ) (end : Status) → Answers source text end → Cause words held before after sink_before sink_after end
-  answer_cause sink_before sink_after source asked text end (refused why for) = (source, asked, refused_cause source why for)
-  answer_cause sink_before sink_after source asked text end (reported {early = early} {output = output} {end = end'} is runs) =
-      run_cause sink_before sink_after end' (record { source = source; asked = asked; program = early; is_source = is; output = output; standing = end'; runs = runs; ends = refl })
-
-  messages_cause : (sink_before sink_after : ℕ) (bytes : List ℕ) → AskForMessages words held bytes → (text : List ℕ) (end : Status) → Messages bytes text end → Cause words held before after sink_before sink_after end
-  messages_cause sink_before sink_after bytes asked text end (listed requests spelled) = inr (bytes, asked, (requests, spelled))
-  messages_cause sink_before sink_after bytes asked text end (none fault at no_list first) = (bytes, asked, no_list)
+  report_cause : (sink_before sink_after : ℕ) (source : List ℕ) (file : List ℕ) → AskFor words (Run file) → HoldsIfTold held file source → (program : Program) → IsSource source program → (text : List ℕ) (end : Status) → Reports program text end → Cause words held before after sink_before sink_after end
+  report_cause sink_before sink_after source file asked holds program is text end (not_yet form) = (Run file, source, asked, holds, inr (program, is, form))
+  report_cause sink_before sink_after source file asked holds program is text end (reported {early = early} {output = output} {end = end'} form runs) =
+      run_cause sink_before sink_after source file asked holds end' (record { program = program; is_source = is; early = early; form = form; output = output; standing = end'; runs = runs; ends = refl })
 
   command_cause : (sink_before sink_after : ℕ) (command : Command) (bytes : List ℕ) → AskFor words command → HoldsIfTold held (file_of command) bytes → (text : List ℕ) (end : Status) → AnswersTo command bytes text end → Cause words held before after sink_before sink_after end
-  command_cause sink_before sink_after (Run file) bytes asked holds text end says = answer_cause sink_before sink_after bytes (file, asked, holds) text end says
-  command_cause sink_before sink_after (Message file) bytes asked holds text end says = messages_cause sink_before sink_after bytes (file, asked, holds) text end says
+  command_cause sink_before sink_after (Run file) bytes asked holds text end (refused why for) = (Run file, bytes, asked, holds, inl (no_source bytes why for))
+  command_cause sink_before sink_after (Run file) bytes asked holds text end (said program {text = text'} {end = end'} is says) = report_cause sink_before sink_after bytes file asked holds program is text' end' says
+  command_cause sink_before sink_after (Check file) bytes asked holds text end (refused why for) = (Check file, bytes, asked, holds, no_source bytes why for)
+  command_cause sink_before sink_after (Check file) bytes asked holds text end (said program {text = text'} {end = end'} is says) =
+      subst (Cause words held before after sink_before sink_after) (sym (ok_done program text' end' says)) (Check file, bytes, asked, holds, (program, is))
+  command_cause sink_before sink_after (Share file) bytes asked holds text end (refused why for) = (Share file, bytes, asked, holds, no_source bytes why for)
+  command_cause sink_before sink_after (Share file) bytes asked holds text end (said program {text = text'} {end = end'} is says) =
+      subst (Cause words held before after sink_before sink_after) (sym (sharing_done program text' end' says)) (Share file, bytes, asked, holds, (program, is))
+  command_cause sink_before sink_after (Code file) bytes asked holds text end (refused why for) = (Code file, bytes, asked, holds, no_source bytes why for)
+  command_cause sink_before sink_after (Code file) bytes asked holds text end (said program {text = text'} {end = end'} is says) =
+      subst (Cause words held before after sink_before sink_after) (sym (code_done program text' end' says)) (Code file, bytes, asked, holds, (program, is))
+  command_cause sink_before sink_after (Message file) bytes asked holds text end (listed requests spelled) = (Message file, bytes, asked, holds, (requests, spelled))
+  command_cause sink_before sink_after (Message file) bytes asked holds text end (none fault at no_list first) = (Message file, bytes, asked, holds, no_list)
 
   pub says_cause : (sink_before sink_after : ℕ) (text : List ℕ) (end : Status) → Says words held before after text end → Cause words held before after sink_before sink_after end
   says_cause sink_before sink_after text end (words_refused {place = place} wrong) = (place, wrong)
@@ -97,9 +143,19 @@ module _ (words : List (List ℕ)) (held : Option Files) (before after : ℕ) wh
   run_end (standing.Fault fault) is = cc is
   run_end (standing.Limit n) is = cc is
 
+  report_end : (program : Program) (text : List ℕ) (end : Status) → Reports program text end → end ≡ status.Memory → ⊥
+  report_end program text end (not_yet form) is = cc is
+  report_end program text end (reported {end = end'} form runs) is = run_end end' is
+
   command_end : (command : Command) (bytes text : List ℕ) (end : Status) → AnswersTo command bytes text end → end ≡ status.Memory → ⊥
   command_end (Run file) bytes text end (refused why for) is = cc is
-  command_end (Run file) bytes text end (reported {end = end'} source runs) is = run_end end' is
+  command_end (Run file) bytes text end (said program {text = text'} {end = end'} source says) is = report_end program text' end' says is
+  command_end (Check file) bytes text end (refused why for) is = cc is
+  command_end (Check file) bytes text end (said program {text = text'} {end = end'} source says) is = let e : Done ≡ status.Memory = sym (ok_done program text' end' says) ∙ is in cc e
+  command_end (Share file) bytes text end (refused why for) is = cc is
+  command_end (Share file) bytes text end (said program {text = text'} {end = end'} source says) is = let e : Done ≡ status.Memory = sym (sharing_done program text' end' says) ∙ is in cc e
+  command_end (Code file) bytes text end (refused why for) is = cc is
+  command_end (Code file) bytes text end (said program {text = text'} {end = end'} source says) is = let e : Done ≡ status.Memory = sym (code_done program text' end' says) ∙ is in cc e
   command_end (Message file) bytes text end (listed requests spelled) is = cc is
   command_end (Message file) bytes text end (none fault at no_list first) is = cc is
 
@@ -110,12 +166,6 @@ module _ (words : List (List ℕ)) (held : Option Files) (before after : ℕ) wh
   says_end text end (read_fault command asked rose) is = cc is
 
   -- ---- the headline
-
-  same_command : (command other : Command) → AskFor words command → AskFor words other → other ≡ command
-  same_command (Run file) (Run other) asked also = let e = sym also.0 ∙ asked.0 in cc e
-  same_command (Run file) (Message other) asked also = let e = sym also.0 ∙ asked.0 in cc e
-  same_command (Message file) (Run other) asked also = let e = sym also.0 ∙ asked.0 in cc e
-  same_command (Message file) (Message other) asked also = let e = sym also.0 ∙ asked.0 in cc e
 
   -- the shelf tells that the command's file holds these bytes
   module _ (command : Command) (bytes : List ℕ) (asked : AskFor words command) (holds : Holds held (file_of command) bytes) (calm : Rose before after → ⊥) where
@@ -133,9 +183,9 @@ module _ (words : List (List ℕ)) (held : Option Files) (before after : ℕ) wh
     pub says_answers : (text : List ℕ) (end : Status) → Says words held before after text end → AnswersTo command bytes text end
     says_answers text end (words_refused wrong) = absurd (wrong.refused command asked)
     says_answers text end (answered other found {text = text'} {end = end'} also holds' says) =
-        let same = same_command command other asked also in
+        let same = one_command words command other asked also in
         subst (λ s. AnswersTo command s text' end') (same_bytes held (file_of other) found holds holds' (ap file_of same)) (subst (λ c. AnswersTo c found text' end') same says)
     says_answers text end (no_file other also cause) =
-        let same = ap file_of (same_command command other asked also) in
+        let same = ap file_of (one_command words command other asked also) in
         ⊎_elim (λ (lacks : Lacks held (file_of other)). absurd (not_lacking held (file_of other) holds lacks same)) (λ (rose : Rose before after). absurd (calm rose)) cause
     says_answers text end (read_fault other also rose) = absurd (calm rose)

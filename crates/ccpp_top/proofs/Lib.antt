@@ -1,4 +1,5 @@
 mod AnswerLaws
+mod CodeLaws
 mod Codes
 pub mod FormLaws
 mod Maps

@@ -1,15 +1,18 @@
 -- Which words ask for a command, and where others are wrong.
 use Rattle.std.proofs.Common.{◌≡◌, ℕ, List, [], ◌∷◌, length, refl, sym, ap, ◌∙◌, subst, inl, inr, arith}
-use Rattle.std.specs.Prelude.{codes}
+use Rattle.std.specs.Prelude.{Option, Some, None, bytes_eq, if◌then◌else◌, codes}
 use Rattle.ccpp_top.specs.declared.command.Command.{Command}
-use Rattle.ccpp_top.specs.declared.command.Command.TheVariants.{Run, Message}
+use Rattle.ccpp_top.specs.declared.command.Command.TheVariants.{Run, Check, Share, Code, Message}
 use Rattle.ccpp_top.specs.declared.command.Verb.{Verb}
 use Rattle.ccpp_top.specs.declared.command.Verb.TheVariants as verb
-use Rattle.ccpp_top.specs.Words.{AskFor, IsFileName, IsFront, IsWrongAt, verb_word, command_on}
+use Rattle.ccpp_top.specs.Words.{AskFor, IsFileName, IsFront, IsWrongAt, file_of, verb_word, command_on}
 
 -- a verb and a file ask for the verb's command
 asks : (v : Verb) (file : List ℕ) → IsFileName file → AskFor (verb_word v ∷ file ∷ []) (command_on v file)
 asks verb.Run file named = (refl, named)
+asks verb.Check file named = (refl, named)
+asks verb.Share file named = (refl, named)
+asks verb.Code file named = (refl, named)
 asks verb.Message file named = (refl, named)
 
 -- whatever is asked for is asked by a verb and a file
@@ -21,6 +24,9 @@ record Asked (words : List (List ℕ)) : Type 0 where
 
 asked_by : (words : List (List ℕ)) (command : Command) → AskFor words command → Asked words
 asked_by words (Run file) asked = record { by = verb.Run; file = file; are = asked.0; named = asked.1 }
+asked_by words (Check file) asked = record { by = verb.Check; file = file; are = asked.0; named = asked.1 }
+asked_by words (Share file) asked = record { by = verb.Share; file = file; are = asked.0; named = asked.1 }
+asked_by words (Code file) asked = record { by = verb.Code; file = file; are = asked.0; named = asked.1 }
 asked_by words (Message file) asked = record { by = verb.Message; file = file; are = asked.0; named = asked.1 }
 
 -- what every command asks of its words
@@ -105,3 +111,47 @@ module _ (v : Verb) where
       let are : words ≡ verb_word v ∷ copy ∷ [] = e ∙ ap (λ l. verb_word v ∷ l) (f ∙ ap (λ l. l ∷ []) (sym is)) in
       subst (λ c. AskFor words c) (sym on) (subst (λ ws. AskFor ws (command_on v copy)) (sym are) (asks v copy (subst IsFileName (sym is) named)))
   asked words more file (w ∷ ws) copy command e f none named is on = absurd (omega arith)
+
+-- ---- words ask for one command
+
+-- the verb that a word is
+abbrev verb_named : List ℕ → Option Verb
+verb_named w = if bytes_eq w (codes "run") then Some verb.Run else (if bytes_eq w (codes "check") then Some verb.Check else (if bytes_eq w (codes "share") then Some verb.Share else (if bytes_eq w (codes "code") then Some verb.Code else (if bytes_eq w (codes "message") then Some verb.Message else None))))
+
+named : (v : Verb) → verb_named (verb_word v) ≡ Some v
+named verb.Run = refl
+named verb.Check = refl
+named verb.Share = refl
+named verb.Code = refl
+named verb.Message = refl
+
+same_verb : (v w : Verb) → verb_word v ≡ verb_word w → v ≡ w
+same_verb v w e = let f : Some v ≡ Some w = sym (named v) ∙ (ap verb_named e ∙ named w) in cc f
+
+abbrev verb_of : Command → Verb
+verb_of (Run file) = verb.Run
+verb_of (Check file) = verb.Check
+verb_of (Share file) = verb.Share
+verb_of (Code file) = verb.Code
+verb_of (Message file) = verb.Message
+
+is_on : (c : Command) → c ≡ command_on (verb_of c) (file_of c)
+is_on (Run file) = refl
+is_on (Check file) = refl
+is_on (Share file) = refl
+is_on (Code file) = refl
+is_on (Message file) = refl
+
+words_of : (words : List (List ℕ)) (c : Command) → AskFor words c → words ≡ verb_word (verb_of c) ∷ file_of c ∷ []
+words_of words (Run file) asked = asked.0
+words_of words (Check file) asked = asked.0
+words_of words (Share file) asked = asked.0
+words_of words (Code file) asked = asked.0
+words_of words (Message file) asked = asked.0
+
+pub one_command : (words : List (List ℕ)) (command other : Command) → AskFor words command → AskFor words other → other ≡ command
+one_command words command other asked also =
+    let e : verb_word (verb_of other) ∷ file_of other ∷ [] ≡ verb_word (verb_of command) ∷ file_of command ∷ [] = sym (words_of words other also) ∙ words_of words command asked in
+    let v : verb_of other ≡ verb_of command = same_verb (verb_of other) (verb_of command) (cc e) in
+    let f : file_of other ≡ file_of command = cc e in
+    is_on other ∙ (ap (λ w. command_on w (file_of other)) v ∙ (ap (command_on (verb_of command)) f ∙ sym (is_on command)))

@@ -1,4 +1,5 @@
 pub mod Answers
+pub mod Checks
 pub mod Code
 pub mod Early
 pub mod Execution

@@ -1,5 +1,5 @@
 -- Sources, and why one is refused.
-use Rattle.std.specs.Prelude.{◌≡◌, ℕ, List, [], ◌++◌, Some, None, codes, decimal}
+use Rattle.std.specs.Prelude.{◌≡◌, ℕ, List, [], ◌++◌, Some, codes, decimal}
 use Rattle.cc_lexer.specs.declared.fault.LexFault.{LexFault}
 use Rattle.cc_lexer.specs.declared.fault.LexFault.TheVariants as lex
 use Rattle.cc_lexer.specs.declared.token.Token.{Token}
@@ -12,12 +12,14 @@ use Rattle.cc_parser.specs.declared.fault.ParseFault.{ParseFault}
 use Rattle.cc_parser.specs.declared.fault.ParseFault.TheVariants as parse
 use Rattle.cc_parser.specs.Faults.{line_at}
 use Rattle.cc_parser.specs.Faults as faults
-use Rattle.ccpp_top.specs.declared.early.Early.{Early}
-use Rattle.ccpp_top.specs.declared.fault.EarlyFault.{EarlyFault}
-use Rattle.ccpp_top.specs.declared.fault.EarlyFault.TheVariants as early
+use Rattle.cc_names.specs.Broken.{least}
+use Rattle.cc_names.specs.Rules.{rule_name, limit_name}
+use Rattle.cc_names.specs.declared.broken.Broken.TheVariants.{Rule, Limit}
+use Rattle.cc_names.specs.declared.broken.TypeFault.{TypeFault}
+use Rattle.cc_names.specs.declared.broken.TypeFault.TheVariants as type
+use Rattle.cc_types.specs.Program.{IsWellFormed, rules_broken}
 use Rattle.ccpp_top.specs.declared.source.Refusal.{Refusal}
-use Rattle.ccpp_top.specs.declared.source.Refusal.TheVariants.{Lex, Parse, NotYet, Memory}
-use Rattle.ccpp_top.specs.Form.{early_of}
+use Rattle.ccpp_top.specs.declared.source.Refusal.TheVariants.{Lex, Parse, Static, Memory}
 
 -- the text is cut into tokens, and these spell the program
 pub record IsProgramText (text : List ℕ) (program : Program) : Type 0 where
@@ -28,14 +30,13 @@ pub record IsProgramText (text : List ℕ) (program : Program) : Type 0 where
 abbrev pub IsNoProgramText : List ℕ → Type 0
 IsNoProgramText text = (program : Program) → IsProgramText text program → ⊥
 
--- it is the text of a program, and this is of the early form
-pub record IsEarlySource (text : List ℕ) (early : Early) : Type 0 where
-  pub program : Program
+-- a source is the text of a program that breaks no static rule
+pub record IsSource (text : List ℕ) (program : Program) : Type 0 where
   pub is_text : IsProgramText text program
-  pub form : early_of program ≡ Some early
+  pub well_formed : IsWellFormed program
 
-abbrev pub IsNoEarlySource : List ℕ → Type 0
-IsNoEarlySource text = (early : Early) → IsEarlySource text early → ⊥
+abbrev pub IsNoSource : List ℕ → Type 0
+IsNoSource text = (program : Program) → IsSource text program → ⊥
 
 -- ---- why a source is refused
 
@@ -52,17 +53,23 @@ pub record IsMisread (text : List ℕ) (fault : ParseFault) (line : ℕ) : Type 
   pub refused : faults.IsRefusedFor (lexemes text tokens) fault
   pub has_line : line ≡ line_at tokens (place_of fault)
 
--- it is the text of a program that is not of the early form
-pub record IsNotYet (text : List ℕ) : Type 0 where
+-- of the broken rules and limits this is the first: those of the first group come first, then the least line, then the least number
+abbrev pub IsFirstBroken : Program → TypeFault → Type 0
+IsFirstBroken program (type.Rule rule line) = least (rules_broken program) ≡ Some (Rule rule line)
+IsFirstBroken program (type.Limit which line) = least (rules_broken program) ≡ Some (Limit which line)
+IsFirstBroken program type.Memory = ⊥
+
+-- it is the text of a program that breaks this rule first
+pub record IsIllFormed (text : List ℕ) (fault : TypeFault) : Type 0 where
   pub program : Program
   pub is_text : IsProgramText text program
-  pub form : early_of program ≡ None
+  pub broken : IsFirstBroken program fault
 
 -- this is why it is refused
 abbrev pub IsRefusedFor : List ℕ → Refusal → Type 0
 IsRefusedFor text (Lex fault) = FirstFault text fault × IsNoProgramText text
 IsRefusedFor text (Parse fault line) = IsMisread text fault line × IsNoProgramText text
-IsRefusedFor text NotYet = IsNotYet text × IsNoEarlySource text
+IsRefusedFor text (Static fault) = IsIllFormed text fault × IsNoSource text
 IsRefusedFor text Memory = ⊥
 
 abbrev pub lex_fault_text : LexFault → List ℕ
@@ -82,11 +89,16 @@ parse_fault_text parse.Memory = []
 abbrev pub in_line : List ℕ → (line : ℕ) → List ℕ
 in_line fault line = fault ++ (codes " line " ++ decimal line)
 
+abbrev pub type_fault_text : TypeFault → List ℕ
+type_fault_text (type.Rule rule line) = in_line (rule_name rule) line
+type_fault_text (type.Limit which line) = in_line (limit_name which) line
+type_fault_text type.Memory = []
+
 -- what is answered, without the end of its line
 abbrev pub refusal_text : Refusal → List ℕ
 refusal_text (Lex fault) = codes "refused lex " ++ lex_fault_text fault
 refusal_text (Parse fault line) = codes "refused parse " ++ in_line (parse_fault_text fault) line
-refusal_text NotYet = codes "refused early NotYet"
+refusal_text (Static fault) = codes "refused type " ++ type_fault_text fault
 refusal_text Memory = []
 
 -- ---- the fault of a part as a refusal
@@ -99,6 +111,6 @@ abbrev pub parse_refusal : List Token → ParseFault → Refusal
 parse_refusal tokens parse.Memory = Memory
 parse_refusal tokens fault = Parse fault (line_at tokens (place_of fault))
 
-abbrev pub early_refusal : EarlyFault → Refusal
-early_refusal early.NotYet = NotYet
-early_refusal early.Memory = Memory
+abbrev pub type_refusal : TypeFault → Refusal
+type_refusal type.Memory = Memory
+type_refusal fault = Static fault

@@ -1,7 +1,7 @@
 -- The words of the command line, and the commands that they ask for.
 use Rattle.std.specs.Prelude.{◌≡◌, ◌≢◌, ℕ, ◌+◌, ◌-◌, ◌⊎◌, List, [], ◌∷◌, ◌++◌, length, take, codes}
 use Rattle.ccpp_top.specs.declared.command.Command.{Command}
-use Rattle.ccpp_top.specs.declared.command.Command.TheVariants.{Run, Message}
+use Rattle.ccpp_top.specs.declared.command.Command.TheVariants.{Run, Check, Share, Code, Message}
 use Rattle.ccpp_top.specs.declared.command.Verb.{Verb}
 use Rattle.ccpp_top.specs.declared.command.Verb.TheVariants as verb
 
@@ -12,11 +12,17 @@ IsFileName (b ∷ bs) = b ≢ 45
 
 abbrev pub AskFor : List (List ℕ) → Command → Type 0
 AskFor words (Run file) = (words ≡ codes "run" ∷ file ∷ []) × IsFileName file
+AskFor words (Check file) = (words ≡ codes "check" ∷ file ∷ []) × IsFileName file
+AskFor words (Share file) = (words ≡ codes "share" ∷ file ∷ []) × IsFileName file
+AskFor words (Code file) = (words ≡ codes "code" ∷ file ∷ []) × IsFileName file
 AskFor words (Message file) = (words ≡ codes "message" ∷ file ∷ []) × IsFileName file
 
 -- the file that a command reads
 abbrev pub file_of : Command → List ℕ
 file_of (Run file) = file
+file_of (Check file) = file
+file_of (Share file) = file
+file_of (Code file) = file
 file_of (Message file) = file
 
 -- some words that ask for a command begin with these
@@ -34,8 +40,14 @@ pub record IsWrongAt (words : List (List ℕ)) (place : ℕ) : Type 0 where
 
 abbrev pub verb_word : Verb → List ℕ
 verb_word verb.Run = codes "run"
+verb_word verb.Check = codes "check"
+verb_word verb.Share = codes "share"
+verb_word verb.Code = codes "code"
 verb_word verb.Message = codes "message"
 
 abbrev pub command_on : Verb → List ℕ → Command
 command_on verb.Run = Run
+command_on verb.Check = Check
+command_on verb.Share = Share
+command_on verb.Code = Code
 command_on verb.Message = Message

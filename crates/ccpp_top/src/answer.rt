@@ -1,11 +1,15 @@
-ghost use Rattle.std.specs.Prelude.{◌≡◌, ◌++◌, ◌-◌, length, slice_get, IfOk, OnOk, string_bytes};
+ghost use Rattle.std.specs.Prelude.{◌≡◌, ◌≢◌, ◌++◌, ◌-◌, length, slice_get, IfOk, OnOk, string_bytes};
 ghost use Rattle.cc_core.specs.Report as spec;
+ghost use Rattle.ccpp_top.specs.Checks.{shown};
+ghost use Rattle.ccpp_top.specs.Source.{refusal_text};
 ghost use Rattle.ccpp_top.specs.Status.{status_of};
 
 use crate::outcome::Outcome;
+use crate::source::Refusal;
 use crate::status::Status;
 use ccpp_edge::{Bytes, Memory};
 use global_ptr::Standing;
+use sharing_check::Sharing;
 use std::alloc::Global;
 
 /// What is written, and the status.
@@ -25,10 +29,34 @@ impl Answer {
         Ok(Answer { text, status })
     }
 
-    /// The report of a run of a program that shares nothing.
-    pub(crate) fn report(alloc: Global, outcome: Outcome) -> Result<Answer, Memory>
+    /// Why a text is no source.
+    pub(crate) fn refused(alloc: Global, why: Refusal) -> Result<Answer, Memory>
+        ensures { IfOk result (λ answer. (why ≢ Refusal.Memory) × (answer ≡ record {
+          text = spec.line (refusal_text why);
+          status = Status.SourceRefused;
+        })) }
+    {
+        Answer::line(alloc, Status::SourceRefused, why.text(alloc)?.as_str())
+    }
+
+    /// Whether a program breaks a rule of sharing.
+    pub(crate) fn sharing(alloc: Global, sharing: Sharing) -> Result<Answer, Memory>
         ensures { IfOk result (λ answer. answer ≡ record {
-          text = spec.report outcome.output outcome.standing spec.Determinate;
+          text = spec.line (spec.sharing_text (shown sharing));
+          status = Status.Done;
+        }) }
+    {
+        Answer::line(alloc, Status::Done, sharing_text(alloc, sharing)?.as_str())
+    }
+
+    /// The report of a run.
+    pub(crate) fn report(
+        alloc: Global,
+        outcome: Outcome,
+        sharing: Sharing,
+    ) -> Result<Answer, Memory>
+        ensures { IfOk result (λ answer. answer ≡ record {
+          text = spec.report outcome.output outcome.standing (shown sharing);
           status = status_of outcome.standing;
         }) }
     {
@@ -37,7 +65,8 @@ impl Answer {
         end_line(&mut text)?;
         let ending = standing_text(alloc, standing)?;
         push_line(&mut text, format!(in alloc; "== {ending}")?.as_str())?;
-        push_line(&mut text, "== determinate")?;
+        let sharing = sharing_text(alloc, sharing)?;
+        push_line(&mut text, format!(in alloc; "== {sharing}")?.as_str())?;
         Ok(Answer {
             text,
             status: Status::from(standing),
@@ -60,6 +89,19 @@ fn end_line(text: &mut Bytes) -> Result<(), Memory>
     match text.as_slice().last() {
         None | Some(b'\n') => Ok(()),
         Some(_) => text.push(b'\n'),
+    }
+}
+
+/// Whether a program breaks a rule of sharing, as a report says it.
+fn sharing_text(alloc: Global, sharing: Sharing) -> Result<String, Memory>
+    ensures { IfOk result (λ text. string_bytes text ≡ spec.sharing_text (shown sharing)) }
+{
+    match sharing {
+        Sharing::Determinate => format!(in alloc; "determinate"),
+        Sharing::Shared { rule, line } => {
+            let rule = rule.name();
+            format!(in alloc; "shared {rule} line {line}")
+        }
     }
 }
 

@@ -7,10 +7,10 @@ ghost use Rattle.ccpp_top.specs.declared.command.Command.{Command};
 ghost use Rattle.ccpp_top.specs.declared.command.Command.TheVariants.{Run};
 
 use crate::answer::Answer;
+use crate::checks::{check_answer, code_answer, share_answer};
 use crate::command::{Command, WordsFault};
 use crate::message::messages_of;
-use crate::run::run;
-use crate::source::read_source;
+use crate::run::run_answer;
 use crate::status::Status;
 use crate::word::Word;
 use ccpp_edge::{Gate, Memory, Shelf, ShelfFault, Sink, SinkFault};
@@ -20,9 +20,10 @@ use std::thread::Threads;
 /// Does what the words of a command line ask for: reads from the shelf, and writes one text to the sink.
 ///
 /// `run F` runs the program in the file F and writes its report: a run of the source definition comes to this output and this
-/// end within 10,000,000 steps. A file that is no program is refused, with the first fault of the lexer or of the parser, and so are
-/// programs that are not of the early form. `message F` lists the requests whose messages the file F holds, or says at which byte
-/// that is none. Other words are refused.
+/// end within 10,000,000 steps, and its last line is the answer of `share F`. Programs that are not of the early form are refused.
+/// `check F` says whether the file holds a program that breaks no static rule, and `share F` whether that breaks a rule of sharing.
+/// `code F` lists its stack code. These four refuse any other file, with the first fault of the lexer, of the parser or of the static
+/// rules. `message F` lists the requests whose messages the file F holds, or says at which byte that is none. Other words are refused.
 /// The runtime and the gate are for programs that start threads, of which there are none yet.
 pub fn ccpp<R: Threads + Sync, S: Shelf, O: Sink, G: Gate>(
     _rt: &R,
@@ -116,17 +117,10 @@ fn answer_on(alloc: Global, command: &Command, bytes: &[u8]) -> Result<Answer, M
     ensures { IfOk result (λ answer. AnswersTo command.now bytes.now answer.text answer.status) }
 {
     match command {
-        Command::Run { .. } => answer_of(alloc, bytes),
+        Command::Run { .. } => run_answer(alloc, bytes),
+        Command::Check { .. } => check_answer(alloc, bytes),
+        Command::Share { .. } => share_answer(alloc, bytes),
+        Command::Code { .. } => code_answer(alloc, bytes),
         Command::Message { .. } => messages_of(alloc, bytes),
-    }
-}
-
-/// The report of the program, or why it is refused.
-fn answer_of(alloc: Global, source: &[u8]) -> Result<Answer, Memory>
-    ensures { IfOk result (λ answer. Answers source.now answer.text answer.status) }
-{
-    match read_source(alloc, source) {
-        Ok(program) => Answer::report(alloc, run(alloc, &program)?),
-        Err(why) => Answer::line(alloc, Status::SourceRefused, why.text(alloc)?.as_str()),
     }
 }

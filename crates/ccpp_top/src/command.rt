@@ -10,6 +10,12 @@ use std::alloc::{AllocError, Global};
 pub(crate) enum Command {
     /// To run the program in the file.
     Run { file: Text },
+    /// To say whether the file is a source.
+    Check { file: Text },
+    /// To say whether its program breaks a rule of sharing.
+    Share { file: Text },
+    /// To list the code of its program.
+    Code { file: Text },
     /// To list the messages in the file.
     Message { file: Text },
 }
@@ -18,6 +24,9 @@ pub(crate) enum Command {
 #[derive(Clone, Copy)]
 enum Verb {
     Run,
+    Check,
+    Share,
+    Code,
     Message,
 }
 
@@ -31,6 +40,9 @@ impl Verb {
     {
         match word {
             "run" => Some(Verb::Run),
+            "check" => Some(Verb::Check),
+            "share" => Some(Verb::Share),
+            "code" => Some(Verb::Code),
             "message" => Some(Verb::Message),
             _ => None,
         }
@@ -42,6 +54,9 @@ impl Verb {
     {
         match self {
             Verb::Run => Command::Run { file },
+            Verb::Check => Command::Check { file },
+            Verb::Share => Command::Share { file },
+            Verb::Code => Command::Code { file },
             Verb::Message => Command::Message { file },
         }
     }
@@ -105,7 +120,11 @@ impl Command {
         ensures { result.now ≡ file_of self.now }
     {
         match self {
-            Command::Run { file } | Command::Message { file } => file.as_str(),
+            Command::Run { file }
+            | Command::Check { file }
+            | Command::Share { file }
+            | Command::Code { file }
+            | Command::Message { file } => file.as_str(),
         }
     }
 }

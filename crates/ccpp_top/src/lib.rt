@@ -3,6 +3,7 @@
 
 mod answer;
 mod call;
+mod checks;
 mod code;
 mod command;
 mod early;

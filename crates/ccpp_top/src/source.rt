@@ -1,25 +1,24 @@
 ghost use Rattle.std.specs.Prelude.{◌≡◌, ◌≢◌, IfOk, IfErr, Ok, Err, string_bytes};
 ghost use Rattle.cc_tree.specs.declared.declarations.Program.{Program};
-ghost use Rattle.ccpp_top.specs.Source.{IsEarlySource, IsProgramText, IsRefusedFor, lex_fault_text, in_line, parse_fault_text, parse_refusal};
+ghost use Rattle.ccpp_top.specs.Source.{IsSource, IsProgramText, IsRefusedFor, lex_fault_text, in_line, parse_fault_text, type_fault_text, parse_refusal};
 
-use crate::early::Early;
-use crate::fault::EarlyFault;
-use crate::form::early_of;
 use cc_lexer::{LexFault, Token, lex};
+use cc_names::TypeFault;
 use cc_parser::{ParseFault, line_at, parse};
 use cc_tree::Program;
+use cc_types::{Checked, check};
 use ccpp_edge::Memory;
 use std::alloc::{AllocError, Global};
 
-/// Why a source is refused.
+/// Why a text is no source.
 #[derive(Clone, Copy, Debug)]
 pub(crate) enum Refusal {
     /// It is not cut into tokens.
     Lex(LexFault),
     /// Its tokens spell no program. The line is that of the token at which they stop being the front of one.
     Parse { fault: ParseFault, line: u32 },
-    /// It is not of the early form.
-    NotYet,
+    /// Its program breaks a static rule or a limit.
+    Static(TypeFault),
     /// Want of memory.
     Memory,
 }
@@ -49,16 +48,16 @@ impl From<LexFault> for Refusal {
     }
 }
 
-impl From<EarlyFault> for Refusal {
+impl From<TypeFault> for Refusal {
     ghost use Rattle.std.specs.Prelude.{◌≡◌};
-    ghost use Rattle.ccpp_top.specs.Source.{early_refusal};
+    ghost use Rattle.ccpp_top.specs.Source.{type_refusal};
 
-    ghost from_gives = { λ fault refusal. refusal ≡ early_refusal fault };
+    ghost from_gives = { λ fault refusal. refusal ≡ type_refusal fault };
 
-    fn from(fault: EarlyFault) -> Refusal {
+    fn from(fault: TypeFault) -> Refusal {
         match fault {
-            EarlyFault::NotYet => Refusal::NotYet,
-            EarlyFault::Memory => Refusal::Memory,
+            TypeFault::Memory => Refusal::Memory,
+            _ => Refusal::Static(fault),
         }
     }
 }
@@ -81,7 +80,10 @@ impl Refusal {
                 let place = in_line(alloc, fault.as_str(), line)?;
                 format!(in alloc; "refused parse {place}")
             }
-            Refusal::NotYet => format!(in alloc; "refused early NotYet"),
+            Refusal::Static(fault) => {
+                let fault = type_fault_text(alloc, fault)?;
+                format!(in alloc; "refused type {fault}")
+            }
             Refusal::Memory => Err(AllocError),
         }
     }
@@ -110,6 +112,17 @@ fn parse_fault_text(alloc: Global, fault: ParseFault) -> Result<String, Memory>
         ParseFault::Syntax { at } => format!(in alloc; "Syntax at {at}"),
         ParseFault::TooDeep { at } => format!(in alloc; "TooDeep at {at}"),
         ParseFault::Memory => Err(AllocError),
+    }
+}
+
+/// The broken rule or limit, and its line.
+fn type_fault_text(alloc: Global, fault: TypeFault) -> Result<String, Memory>
+    ensures { IfOk result (λ text. string_bytes text ≡ type_fault_text fault) }
+{
+    match fault {
+        TypeFault::Rule { rule, line } => in_line(alloc, rule.name(), line),
+        TypeFault::Limit { which, line } => in_line(alloc, which.name(), line),
+        TypeFault::Memory => Err(AllocError),
     }
 }
 
@@ -146,11 +159,11 @@ fn read_program(alloc: Global, text: &[u8]) -> Result<Program, Refusal>
     }
 }
 
-/// Reads a source.
-pub(crate) fn read_source(alloc: Global, text: &[u8]) -> Result<Early, Refusal>
-    ensures source { IfOk result (IsEarlySource text.now) }
+/// The program of a source.
+pub(crate) fn read_source(alloc: Global, text: &[u8]) -> Result<Checked, Refusal>
+    ensures source { IfOk result (IsSource text.now) }
     ensures refused { IfErr result (λ why. why ≢ Refusal.Memory → IsRefusedFor text.now why) }
 {
     let program = read_program(alloc, text)?;
-    Ok(early_of(alloc, &program)?)
+    Ok(check(alloc, program)?)
 }

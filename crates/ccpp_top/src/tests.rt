@@ -91,7 +91,12 @@ fn runs_are_reported(rt: HostRuntime) -> Result<(), Fail> {
             "5\n== fault Overflow line 4\n== determinate\n",
             Status::ProgramFault,
         ),
-        ("", "refused early NotYet\n", Status::SourceRefused),
+        ("", "refused type NoMain line 1\n", Status::SourceRefused),
+        (
+            "int main() {\n a * b; }",
+            "refused type UnknownClass line 2\n",
+            Status::SourceRefused,
+        ),
         (
             "int main() { int n = 1; return n; }",
             "refused early NotYet\n",
@@ -114,6 +119,49 @@ fn runs_are_reported(rt: HostRuntime) -> Result<(), Fail> {
         ),
     ] {
         let (written, ended) = answer(&rt, rt.alloc(), &Case::of("run f.cc", source))?;
+        assert_eq!(rt; written.as_slice(), text.as_bytes(), "{source}");
+        assert!(rt; ended == status, "{source}");
+    }
+    Ok(())
+}
+
+#[test]
+fn sources_are_checked(rt: HostRuntime) -> Result<(), Fail> {
+    for (words, source, text, status) in [
+        ("check f.cc", EMPTY, "ok\n", Status::Done),
+        (
+            "check f.cc",
+            "int main() { par { return 1; } }",
+            "refused type ReturnInBranch line 1\n",
+            Status::SourceRefused,
+        ),
+        (
+            "check f.cc",
+            "int main() { int a[65537]; }",
+            "refused type ArrayLength line 1\n",
+            Status::SourceRefused,
+        ),
+        ("share f.cc", EMPTY, "determinate\n", Status::Done),
+        (
+            "share f.cc",
+            "int main() {\n  par { cout << 1; }\n}",
+            "shared PrintInBranch line 2\n",
+            Status::Done,
+        ),
+        (
+            "code f.cc",
+            EMPTY,
+            "function main\n0 push 0\n1 ret\n2 push 0\n3 ret\n",
+            Status::Done,
+        ),
+        (
+            "share f.cc",
+            "int main() {",
+            "refused parse Syntax at 5 line 1\n",
+            Status::SourceRefused,
+        ),
+    ] {
+        let (written, ended) = answer(&rt, rt.alloc(), &Case::of(words, source))?;
         assert_eq!(rt; written.as_slice(), text.as_bytes(), "{source}");
         assert!(rt; ended == status, "{source}");
     }
