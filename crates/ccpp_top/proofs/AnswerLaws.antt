@@ -16,7 +16,7 @@ use Rattle.cc_core.specs.declared.program.Program.{Program as CoreProgram}
 use Rattle.cc_core.specs.View.{program_of}
 use Rattle.cc_core.specs.Report.{report, line, sharing_text}
 use Rattle.cc_tree.specs.declared.declarations.Program.{Program}
-use Rattle.cc_types.specs.Program.{core_program, rules_shared}
+use Rattle.cc_types.specs.Program.{core_program}
 use Rattle.code_listing.specs.Listing.{listing_of}
 use Rattle.sharing_check.specs.declared.answer.Sharing.{Sharing as Found}
 use Rattle.sharing_check.specs.Sharing as rules
@@ -51,7 +51,7 @@ was_said Says source program is a says = said program is says
 pub was_ok : (program : Program) (a : Answer) → a ≡ record { text = line (codes "ok"); status = Done } → SaysOk program a.text a.status
 was_ok program a e = rw e ok
 
-pub was_sharing : (program : Program) (found : Found) → found ≡ rules.sharing_of (rules_shared program) → (a : Answer) → a ≡ record { text = line (sharing_text (shown found)); status = Done } → SaysSharing program a.text a.status
+pub was_sharing : (program : Program) (found : Found) → found ≡ rules.sharing program → (a : Answer) → a ≡ record { text = line (sharing_text (shown found)); status = Done } → SaysSharing program a.text a.status
 was_sharing program found is a e = rw (e, is) sharing
 
 pub was_code : (program : Program) (core : CoreProgram) (code : Instructions) (start text : List ℕ) → core ≡ core_program program → code ≡ layout (program_of core) → start ≡ [] → text ≡ start ++ listing_of code → SaysCode program text Done
@@ -60,7 +60,7 @@ was_code program core code start text same lowered empty is =
     let e : text ≡ listing_of (layout (program_of (core_program program))) = is ∙ (ap (λ s. s ++ listing_of code) empty ∙ ap listing_of all) in
     subst (λ t. SaysCode program t Done) (sym e) code_listed
 
-pub was_run : (program : Program) (early : Early) (output : List ℕ) (end : Standing) (found : Found) → early_of program ≡ Some early → RunsTo (core_of early) [] step_limit output end → found ≡ rules.sharing_of (rules_shared program) → (a : Answer) → a ≡ record { text = report output end (shown found); status = status_of end } → Reports program a.text a.status
+pub was_run : (program : Program) (early : Early) (output : List ℕ) (end : Standing) (found : Found) → early_of program ≡ Some early → RunsTo (core_of early) [] step_limit output end → found ≡ rules.sharing program → (a : Answer) → a ≡ record { text = report output end (shown found); status = status_of end } → Reports program a.text a.status
 was_run program early output end found form runs is a e = rw (e, is) (reported form runs)
 
 pub was_not_yet : (program : Program) → early_of program ≡ None → (a : Answer) → a ≡ record { text = line (codes "refused early NotYet"); status = SourceRefused } → Reports program a.text a.status

@@ -5,7 +5,7 @@ use Rattle.cc_core.specs.View.{program_of}
 use Rattle.cc_core.specs.Report.{Sharing, Determinate, Shared, line, sharing_text}
 use Rattle.cc_scopes.specs.Sharing.{share_name}
 use Rattle.cc_tree.specs.declared.declarations.Program.{Program}
-use Rattle.cc_types.specs.Program.{core_program, rules_shared}
+use Rattle.cc_types.specs.Program.{core_program}
 use Rattle.code_listing.specs.Listing.{listing_of}
 use Rattle.sharing_check.specs.declared.answer.Sharing.{Sharing as Found}
 use Rattle.sharing_check.specs.declared.answer.Sharing.TheVariants as found
@@ -30,7 +30,7 @@ shown (found.Shared rule line) = Shared (share_name rule) line
 
 -- whether a program breaks a rule of sharing: the one with the least line, and at one line with the least number
 abbrev pub sharing_of : Program → Sharing
-sharing_of program = shown (rules.sharing_of (rules_shared program))
+sharing_of program = shown (rules.sharing program)
 
 -- ---- the commands
 

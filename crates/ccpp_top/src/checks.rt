@@ -9,7 +9,7 @@ use cc_lower::lower;
 use cc_types::Checked;
 use ccpp_edge::{Bytes, Memory};
 use code_listing::listing;
-use sharing_check::sharing_of;
+use sharing_check::sharing;
 use std::alloc::Global;
 
 /// What `check` answers on a file of these bytes.
@@ -27,7 +27,10 @@ pub(crate) fn share_answer(alloc: Global, source: &[u8]) -> Result<Answer, Memor
     ensures { IfOk result (λ answer. Shares source.now answer.text answer.status) }
 {
     match read_source(alloc, source) {
-        Ok(checked) => Answer::sharing(alloc, sharing_of(checked.shared())),
+        Ok(checked) => {
+            let found = sharing(&checked);
+            Answer::sharing(alloc, found)
+        }
         Err(why) => Answer::refused(alloc, why),
     }
 }

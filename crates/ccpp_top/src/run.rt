@@ -15,7 +15,7 @@ use crate::source::read_source;
 use crate::status::Status;
 use cc_types::Checked;
 use ccpp_edge::Memory;
-use sharing_check::sharing_of;
+use sharing_check::sharing;
 use std::alloc::{AllocError, Global};
 
 /// What `run` answers on a file of these bytes.
@@ -35,7 +35,7 @@ fn report_of(alloc: Global, checked: &Checked) -> Result<Answer, Memory>
     match early_of(alloc, checked.program()) {
         Ok(early) => {
             let outcome = run(alloc, &early)?;
-            Answer::report(alloc, outcome, sharing_of(checked.shared()))
+            Answer::report(alloc, outcome, sharing(checked))
         }
         Err(EarlyFault::NotYet) => {
             Answer::line(alloc, Status::SourceRefused, "refused early NotYet")

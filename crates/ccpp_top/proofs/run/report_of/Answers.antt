@@ -1,6 +1,5 @@
 use Rattle.std.proofs.Common.{◌∙◌, ap, sym}
 use Rattle.std.proofs.lemmas.Result.{IfOk-weaker}
-use Rattle.sharing_check.specs.Sharing.{sharing_of}
 use Rattle.ccpp_top.specs.Form.{early_of}
 use Rattle.ccpp_top.proofs.AnswerLaws.{was_run, was_not_yet}
 use Rattle.ccpp_top.proofs.run.report_of.Goals as goal
@@ -11,8 +10,7 @@ run-requires c = (c.program.result.now, c.in-Ok.ensures)
 pub returns-in_ok-outcome-in-Ok : goal.returns-in_ok-outcome-in-Ok
 returns-in_ok-outcome-in-Ok c =
     let form = ap early_of (sym c.program.ensures.value) ∙ c.in-Ok.ensures in
-    let is = c.sharing_of.ensures ∙ ap sharing_of c.shared.ensures in
-    IfOk-weaker c.report.result _ _ (was_run c.args.checked.now c.in-Ok.early c.in_ok-outcome-in-Ok.outcome.output c.in_ok-outcome-in-Ok.outcome.standing c.sharing_of.result form c.in_ok-outcome-in-Ok.ensures is) c.report.ensures
+    IfOk-weaker c.report.result _ _ (was_run c.args.checked.now c.in-Ok.early c.in_ok-outcome-in-Ok.outcome.output c.in_ok-outcome-in-Ok.outcome.standing c.sharing.result form c.in_ok-outcome-in-Ok.ensures c.sharing.ensures) c.report.ensures
 
 pub returns-in-Err-NotYet : goal.returns-in-Err-NotYet
 returns-in-Err-NotYet c =
