@@ -1,4 +1,7 @@
 //! The program `ccpp`: the words of the command line, the files and the standard output, handed to the command.
+//!
+//! The command is answered in a thread of its own, for its stack: what the front end leaves of a source nests as deep as the longest
+//! chain of operators.
 #![tactic(auto)]
 
 use ccpp_edge::{List, Memory, OpenGate, RealShelf, RealSink};
@@ -7,23 +10,34 @@ use std::alloc::{AllocError, Global};
 use std::env::{self, Env};
 use std::io::ErrorKind;
 use std::process::ExitCode;
+use std::thread::{self, Builder};
+
+/// The stack of the thread that answers the command, in bytes: 2 KiB for each operator of the longest source. Of it only what is
+/// used takes memory.
+const STACK: usize = 1 << 30;
 
 fn main(rt: HostRuntime) -> ExitCode {
-    let alloc = rt.alloc();
-    let Ok(words) = words(&rt, alloc) else {
-        return ExitCode::from(Status::Memory.number());
-    };
-    let mut shelf = RealShelf::new(alloc, &rt);
-    let mut out = RealSink::new(&rt);
-    let status = ccpp(
-        &rt,
-        alloc,
-        words.as_slice(),
-        &mut shelf,
-        &mut out,
-        &OpenGate,
-    );
+    let status = thread::scope(thread::scope_env(), &rt, |scope| {
+        match Builder::new()
+            .stack_size(STACK)
+            .spawn_scoped(scope, || answer(&rt))
+        {
+            Ok(handle) => handle.join(&rt),
+            Err(_) => Status::Memory,
+        }
+    });
     ExitCode::from(status.number())
+}
+
+/// Does what the command line asks for.
+fn answer(rt: &HostRuntime) -> Status {
+    let alloc = rt.alloc();
+    let Ok(words) = words(rt, alloc) else {
+        return Status::Memory;
+    };
+    let mut shelf = RealShelf::new(alloc, rt);
+    let mut out = RealSink::new(rt);
+    ccpp(rt, alloc, words.as_slice(), &mut shelf, &mut out, &OpenGate)
 }
 
 /// The words of the command line without the program's name. One empty word, which no command has, stands for a command line that
