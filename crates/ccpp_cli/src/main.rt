@@ -10,7 +10,8 @@ use std::alloc::{AllocError, Global};
 use std::env::{self, Env};
 use std::io::ErrorKind;
 use std::process::ExitCode;
-use std::thread::{self, Builder};
+use std::rt::Files;
+use std::thread::{self, Builder, Threads};
 
 /// The stack of the thread that answers the command, in bytes: 2 KiB for each operator of the longest source. Of it only what is
 /// used takes memory.
@@ -20,7 +21,7 @@ fn main(rt: HostRuntime) -> ExitCode {
     let status = thread::scope(thread::scope_env(), &rt, |scope| {
         match Builder::new()
             .stack_size(STACK)
-            .spawn_scoped(scope, || answer(&rt))
+            .spawn_scoped(scope, || answer(&rt, rt.alloc()))
         {
             Ok(handle) => handle.join(&rt),
             Err(_) => Status::Memory,
@@ -30,8 +31,7 @@ fn main(rt: HostRuntime) -> ExitCode {
 }
 
 /// Does what the command line asks for.
-fn answer(rt: &HostRuntime) -> Status {
-    let alloc = rt.alloc();
+fn answer<R: Alloc + Env + Files + Print + Sync + Threads>(rt: &R, alloc: Global) -> Status {
     let Ok(words) = words(rt, alloc) else {
         return Status::Memory;
     };
