@@ -84,8 +84,15 @@ abbrev pub address_rule : Ty → Root → (is_element : Bool) → Option StaticR
 address_rule ty.Int root is_element = address_rule_by root is_element
 address_rule _ root is_element = Some r.BadType
 
+-- whether a pointer to such a place, moved on, leads to sync ints alone: one to an element of a member leads to the members behind it,
+-- which may be plain
+abbrev pub leads_to_sync_alone : Root → (sync : Bool) → Bool
+leads_to_sync_alone (root.Variable part) sync = sync
+leads_to_sync_alone root.Member sync = false
+leads_to_sync_alone root.Pointer sync = sync
+
 unfoldable pub address_of : Context → Place → Elab Typed
-address_of cx p = share_address p.sync cx >> pure (typed.Value (pointer_to p))
+address_of cx p = share_address (leads_to_sync_alone p.root p.sync) cx >> pure (typed.Value (pointer_to p))
 
 abbrev pub address_unless : Option StaticRule → Context → Place → Elab Typed
 address_unless (Some rule) cx p = broken cx rule

@@ -201,11 +201,22 @@ fn dereferenced(
     led(scope, state, value)
 }
 
+/// Whether a pointer to such a place, moved on, leads to sync ints alone. One to an element of a member leads to the members behind it.
+fn leads_to_sync_alone(root: Root, sync: bool) -> bool
+    ensures { result ≡ spec.leads_to_sync_alone root sync }
+{
+    match root {
+        Root::Variable(_) | Root::Pointer => sync,
+        Root::Member => false,
+    }
+}
+
 #[tactic(auto, unfolding(crate::specs::Operators::address_of))]
 fn address_of(scope: &Scope<'_>, state: &mut State, place: Place) -> Result<Typed, AllocError>
     ensures { Gives (spec.address_of (context scope.now) place state.old) result state.new }
 {
-    scope.share_address(state, place.sync)?;
+    let sync = leads_to_sync_alone(place.root, place.sync);
+    scope.share_address(state, sync)?;
     Ok(Typed::Value(place.pointer()))
 }
 
