@@ -24,6 +24,3 @@ pub mod RangeLaws
 pub mod ShapeLaws
 pub mod LimitLaws
 pub mod MainLaws
-pub mod NumberLaws
-pub mod ConstantLaws
-pub mod SameTypes

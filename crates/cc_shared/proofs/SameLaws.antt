@@ -1,4 +1,4 @@
--- A type that breaks no rule is the same in a class and among the constants alone: as the tables have it and as its declaration is read.
+-- A type that breaks no rule is the same in a function and among the constants alone: as it is read and as the tables have it.
 use Rattle.std.proofs.Common.{◌≡◌, ℕ, Bool, true, false, not, [], ◌∷◌, Option, Some, None, refl, sym, ap, ◌∙◌}
 use Rattle.std.specs.Prelude.{slice_get, ◌&&◌, ◌||◌}
 use Rattle.std.proofs.lemmas.Bool.{false≢true}
@@ -25,16 +25,11 @@ use Rattle.cc_tree.specs.declared.statements.Base.TheVariants as base
 use Rattle.cc_tree.specs.declared.statements.Decl.{Decl}
 use Rattle.cc_tree.specs.declared.statements.TypeName.{TypeName}
 use Rattle.cc_typing.specs.Whole.{array_length}
-use Rattle.cc_source.proofs.RuleLaws.{not_empty, empty_behind}
-use Rattle.cc_source.proofs.ConstantLaws.{IsBare, array_length_same}
+use Rattle.cc_shared.proofs.StateLaws.{not_empty}
 
-left_true : (x y : Bool) → (x && y) ≡ true → x ≡ true
-left_true true y is = refl
-left_true false y is = is
-
-right_true : (x y : Bool) → (x && y) ≡ true → y ≡ true
-right_true true y is = is
-right_true false y is = absurd (false≢true is)
+left_true' : (x y : Bool) → (x && y) ≡ true → x ≡ true
+left_true' true y is = refl
+left_true' false y is = is
 
 both_true : (x y : Bool) → x ≡ true → y ≡ true → (x && y) ≡ true
 both_true true y p q = q
@@ -44,12 +39,7 @@ or_true : (x : Bool) → (x || true) ≡ true
 or_true true = refl
 or_true false = refl
 
--- where a declaration has a length, it is one
-abbrev pub HasLength : Context → Option Expr → State → Type 0
-HasLength a None s = Unit {0}
-HasLength a (Some e) s = (k : ℕ) × ((array_length a e s).0 ≡ Some k)
-
-module _ (a b : Context) (bare : IsBare a b) where
+module _ (a b : Context) (names : a.names ≡ b.names) (no_classes : b.tables.classes ≡ []) where
   -- ---- the type that is written
 
   void_same : (star : Bool) (s u : State) → (void_type star a s).0 ≡ (void_type star b u).0
@@ -65,7 +55,7 @@ module _ (a b : Context) (bare : IsBare a b) where
   written_by_same base.Int t s u = refl
   written_by_same base.SyncInt t s u = refl
   written_by_same (base.Named name) t s u =
-      class_same (class_named a.names name) t s u ∙ ap (λ ns. (class_or_none (class_named ns name) b t u).0) bare.names
+      class_same (class_named a.names name) t s u ∙ ap (λ ns. (class_or_none (class_named ns name) b t u).0) names
 
   pub written_same : (t : TypeName) (s u : State) → (written a t s).0 ≡ (written b t u).0
   written_same t s u = written_by_same t.base t s u
@@ -73,7 +63,7 @@ module _ (a b : Context) (bare : IsBare a b) where
   -- ---- whether it is allowed
 
   none_is_global : (class : ClassId) → is_global b class ≡ false
-  none_is_global class = ap (λ cs. is_global_class (slice_get cs class.0)) bare.classes
+  none_is_global class = ap (λ cs. is_global_class (slice_get cs class.0)) no_classes
 
   reaches_same : (to : Target) (remote : Bool) → reaches b to remote ≡ true
   reaches_same target.Int remote = refl
@@ -86,12 +76,12 @@ module _ (a b : Context) (bare : IsBare a b) where
   may_be_same role ty.Null sync is = is
   may_be_same role ty.Unknown sync is = is
   may_be_same role (ty.Pointer to remote) sync is =
-      both_true (has_cells role || not sync) (reaches b to remote) (left_true (has_cells role || not sync) (reaches a to remote) is)
+      both_true (has_cells role || not sync) (reaches b to remote) (left_true' (has_cells role || not sync) (reaches a to remote) is)
       (reaches_same to remote)
 
   allowed_by_same : (x : Shape) (role : Role) (d : Declared) → is_allowed_by x role a d ≡ true → is_allowed_by x role b d ≡ true
   allowed_by_same (shape.Object class) role d is =
-      both_true (is_variable role) (not (is_global b class)) (left_true (is_variable role) (not (is_global a class)) is)
+      both_true (is_variable role) (not (is_global b class)) (left_true' (is_variable role) (not (is_global a class)) is)
       (ap (λ g. not g) (none_is_global class))
   allowed_by_same shape.Cell role d is = may_be_same role d.ty d.sync is
   allowed_by_same (shape.Array n) role d is = may_be_same role d.ty d.sync is
@@ -101,7 +91,7 @@ module _ (a b : Context) (bare : IsBare a b) where
 
   allowed_where : (x : Bool) (d : Declared) (s : State) → (checked x a d s).1.broken ≡ [] → x ≡ true
   allowed_where true d s none = refl
-  allowed_where false d s none = absurd (not_empty (Rule r.BadDeclared a.line) [] (empty_behind s.broken (Rule r.BadDeclared a.line ∷ []) none))
+  allowed_where false d s none = absurd (not_empty s.broken (Rule r.BadDeclared a.line) none)
 
   checked_same : (x y : Bool) (d : Declared) (s u : State) → x ≡ true → y ≡ true → (checked x a d s).0 ≡ (checked y b d u).0
   checked_same true true d s u p q = refl
@@ -118,54 +108,3 @@ module _ (a b : Context) (bare : IsBare a b) where
       let allowed = allowed_where (is_allowed role a x.0) x.0 x.1 none in
       checked_same (is_allowed role a x.0) (is_allowed role b x.0) x.0 x.1 y.1 allowed (allowed_same role x.0 allowed)
       ∙ ap (λ d. (checked (is_allowed role b d) b d y.1).0) (written_same t s u)
-
-  -- ---- nothing comes into scope
-
-  void_locals : (star : Bool) (u : State) → (void_type star b u).1.locals ≡ u.locals
-  void_locals true u = refl
-  void_locals false u = refl
-
-  class_locals : (o : Option ClassId) (t : TypeName) (u : State) → (class_or_none o b t u).1.locals ≡ u.locals
-  class_locals None t u = refl
-  class_locals (Some class) t u = refl
-
-  written_locals : (x : Base) (t : TypeName) (u : State) → (written_by x b t u).1.locals ≡ u.locals
-  written_locals base.Void t u = void_locals t.star u
-  written_locals base.Int t u = refl
-  written_locals base.SyncInt t u = refl
-  written_locals (base.Named name) t u = class_locals (class_named b.names name) t u
-
-  checked_locals : (x : Bool) (d : Declared) (u : State) → (checked x b d u).1.locals ≡ u.locals
-  checked_locals true d u = refl
-  checked_locals false d u = refl
-
-  typed_locals : (role : Role) (t : TypeName) (u : State) → (typed_as role b t u).1.locals ≡ u.locals
-  unfolding typed_as
-  typed_locals role t u =
-      let y = written b t u in checked_locals (is_allowed role b y.0) y.0 y.1 ∙ written_locals t.base t u
-
-  -- ---- with a length
-
-  arrayed_by_same : (x : Shape) (d : Declared) (n : Option ℕ) (s u : State) → (arrayed_by x a d n s).0 ≡ (arrayed_by x b d n u).0
-  arrayed_by_same shape.Cell d n s u = refl
-  arrayed_by_same (shape.Array m) d n s u = refl
-  arrayed_by_same (shape.Object class) d n s u = refl
-
-  with_length_same : (d : Declared) (o : Option Expr) (s u : State) → u.locals ≡ [] → HasLength a o s → (with_length a d o s).0 ≡ (with_length b d o u).0
-  unfolding arrayed
-  with_length_same d None s u none has = refl
-  with_length_same d (Some e) s u none has =
-      let x = array_length a e s in
-      let y = array_length b e u in
-      arrayed_by_same d.shape d x.0 x.1 y.1
-      ∙ ap (λ n. (arrayed_by d.shape b d n y.1).0) (has.1 ∙ sym (array_length_same a b bare e s u has.0 none has.1))
-
-  -- what is declared is the same
-  pub slot_same : (role : Role) (d : Decl) (s u : State) → u.locals ≡ [] → (typed_as role a d.ty s).1.broken ≡ []
-      → HasLength a d.length (typed_as role a d.ty s).1 → (slot role a d s).0 ≡ (slot role b d u).0
-  unfolding slot
-  slot_same role d s u none clean has =
-      let x = typed_as role a d.ty s in
-      let y = typed_as role b d.ty u in
-      with_length_same x.0 d.length x.1 y.1 (typed_locals role d.ty u ∙ none) has
-      ∙ ap (λ t. (with_length b t d.length y.1).0) (typed_same role d.ty s u clean)

@@ -18,8 +18,6 @@ use Rattle.cc_names.specs.declared.declarations.MemberId.{MemberId}
 use Rattle.cc_names.specs.declared.declarations.Entity.{Entity}
 use Rattle.cc_names.specs.declared.declarations.Entity.TheVariants as entity
 use Rattle.cc_ops.specs.declared.operator.Op.{Op}
-use Rattle.cc_scopes.specs.declared.meaning.Meaning.{Meaning}
-use Rattle.cc_scopes.specs.declared.meaning.Meaning.TheVariants as m
 use Rattle.cc_scopes.specs.declared.scope.Found.{Found}
 use Rattle.cc_scopes.specs.declared.state.State.{State}
 use Rattle.cc_scopes.specs.declared.tables.Member.{Member}
@@ -28,7 +26,7 @@ use Rattle.cc_scopes.specs.declared.typed.Typed.{Typed}
 use Rattle.cc_scopes.specs.declared.typed.Typed.TheVariants as typed
 use Rattle.cc_scopes.specs.Elab.{Elab, pure}
 use Rattle.cc_scopes.specs.Lengths.{no_length, natural, length_in_range, value_length, length_of, value_or_fault, constant_of}
-use Rattle.cc_scopes.specs.Meaning.{class_at, member_at, member_of, member_in, value_in, of_entity, of_file, member_or_file, outside_by, variable_or, meant, of_constant, of_meaning, name}
+use Rattle.cc_scopes.specs.Meaning.{class_at, member_at, member_of, member_in, constant_value, of_entity, of_file, member_or_file, outside_by, variable_or, meant, of_constant, of_meaning, name}
 use Rattle.cc_scopes.specs.Scope.{Context, variable}
 use Rattle.cc_operators.specs.Operators.{negated, unary, arithmetic, joined_constant, joined_numbers, joined_as, joined}
 use Rattle.cc_typing.specs.Expr.{Layer, kind, node, expr_to, expr}
@@ -42,8 +40,8 @@ use Rattle.cc_tree.specs.declared.expressions.Link.{Link, out-Link}
 use Rattle.cc_tree.specs.declared.expressions.Suffix.{Suffix, out-Suffix}
 use Rattle.cc_tree.specs.declared.expressions.UnaryOp.{UnaryOp}
 use Rattle.cc_tree.specs.declared.expressions.UnaryOp.TheVariants as prefix
-use Rattle.cc_source.proofs.NumberLaws.{IsOther, Never, placed_never, this_never, operated_never, joined_values_never, dereferenced_never, address_never, call_named_never, indexed_array_never, indexed_value_never}
-use Rattle.cc_source.proofs.NumberLaws.{field_of_never, call_member_never, new_array_never, new_object_never}
+use Rattle.cc_shared.proofs.NumberLaws.{IsOther, Never, placed_never, this_never, operated_never, joined_values_never, dereferenced_never, address_never, call_named_never, indexed_array_never, indexed_value_never}
+use Rattle.cc_shared.proofs.NumberLaws.{field_of_never, call_member_never, new_array_never, new_object_never}
 
 -- ---- the same constant
 
@@ -81,27 +79,20 @@ shown_never (typed.Object o) r t h = tt
 
 -- ---- names
 
--- a context in which names of the file mean the same, and there are no members
-pub record IsBare (a b : Context) : Type 0 where
+-- two contexts with one list of names, of which the second has no members
+pub record HasNoMembers (a b : Context) : Type 0 where
   pub names : a.names ≡ b.names
-  pub known : a.known ≡ b.known
-  pub constants : a.tables.constants ≡ b.tables.constants
   pub classes : b.tables.classes ≡ []
 
+-- and in which the constants that are declared before have the same values
+pub record IsBare (a b : Context) : Type 0 where
+  pub plain : HasNoMembers a b
+  pub known : a.known ≡ b.known
+  pub constants : (k : ℕ) → nat_lt k a.known ≡ true → constant_value a k ≡ constant_value b k
+
 module _ (a b : Context) (bare : IsBare a b) where
-  same_entity : (x : Option Entity) → of_entity a x ≡ of_entity b x
-  same_entity None = refl
-  same_entity (Some (entity.Class class)) = refl
-  same_entity (Some (entity.Function f)) = refl
-  same_entity (Some (entity.Constant k)) =
-      ap (λ n. m.Constant (nat_lt k n) (value_in (slice_get a.tables.constants k))) bare.known
-      ∙ ap (λ cs. m.Constant (nat_lt k b.known) (value_in (slice_get cs k))) bare.constants
-
-  same_file : (text : Name) → of_file a text ≡ of_file b text
-  same_file text = same_entity (entity_named a.names text) ∙ ap (λ ns. of_entity b (entity_named ns text)) bare.names
-
   no_member_in : (class : ClassId) (id : MemberId) → member_in (class_at b class) id ≡ None
-  no_member_in class id = ap (λ cs. member_in (slice_get cs class.0) id) bare.classes
+  no_member_in class id = ap (λ cs. member_in (slice_get cs class.0) id) bare.plain.classes
 
   no_member : (class : ClassId) (id : Option MemberId) → member_at b class id ≡ None
   no_member class None = refl
@@ -111,34 +102,47 @@ module _ (a b : Context) (bare : IsBare a b) where
   outside_is None text = refl
   outside_is (Some class) text = ap (λ x. member_or_file x b text) (no_member class (member_named b.names class text))
 
-  bare_meaning : (text : Name) (t : State) → t.locals ≡ [] → meant b text t ≡ of_file a text
+  bare_meaning : (text : Name) (t : State) → t.locals ≡ [] → meant b text t ≡ of_entity b (entity_named a.names text)
   bare_meaning text t none =
-      ap (λ ls. variable_or (variable text ls) b text) none ∙ (outside_is b.class text ∙ sym (same_file text))
+      ap (λ ls. variable_or (variable text ls) b text) none
+      ∙ (outside_is b.class text ∙ ap (λ ns. of_entity b (entity_named ns text)) (sym bare.plain.names))
 
-  of_constant_shown : (is_earlier : Bool) (v : Option ℤ) (s t : State) → Shown (of_constant is_earlier v) (pure (of_constant is_earlier v) t) t
-  of_constant_shown true None s t = tt
-  of_constant_shown true (Some n) s t = (refl, refl)
-  of_constant_shown false None s t = tt
-  of_constant_shown false (Some n) s t = tt
+  known_shown : (v : Option ℤ) (t : State) → Shown (of_constant true v) (of_constant true v, t) t
+  known_shown None t = tt
+  known_shown (Some n) t = (refl, refl)
 
-  of_meaning_shown : (x : Meaning) (s t : State) → Shown (of_meaning a x s).0 (of_meaning b x t) t
-  of_meaning_shown (m.Variable found) s t = shown_never _ _ t (placed_never found.declared.ty found.declared.shape _)
-  of_meaning_shown (m.Field declared offset) s t = shown_never _ _ t (placed_never declared.ty declared.shape _)
-  of_meaning_shown (m.Method f) s t = tt
-  of_meaning_shown (m.Constant is_earlier v) s t = of_constant_shown is_earlier v s t
-  of_meaning_shown (m.Function f) s t = tt
-  of_meaning_shown m.Nothing s t = tt
+  later_shown : (v : Option ℤ) (r : Typed × State) (t : State) → Shown (of_constant false v) r t
+  later_shown None r t = tt
+  later_shown (Some n) r t = tt
 
-  member_shown : (x : Option Member) (text : Name) (s t : State) → Shown (of_meaning a (member_or_file x a text) s).0 (of_meaning b (of_file a text) t) t
-  member_shown None text s t = of_meaning_shown (of_file a text) s t
+  constant_shown : (x : Bool) (k : ℕ) (t : State) → nat_lt k a.known ≡ x
+      → Shown (of_constant x (constant_value a k)) (of_constant (nat_lt k b.known) (constant_value b k), t) t
+  constant_shown false k t is = later_shown (constant_value a k) _ t
+  constant_shown true k t is =
+      let now : nat_lt k b.known ≡ true = ap (λ n. nat_lt k n) (sym bare.known) ∙ is in
+      subst (λ y. Shown (of_constant true (constant_value a k)) (of_constant y (constant_value b k), t) t) (sym now)
+      (subst (λ v. Shown (of_constant true (constant_value a k)) (of_constant true v, t) t) (bare.constants k is)
+      (known_shown (constant_value a k) t))
+
+  entity_shown : (x : Option Entity) (s t : State) → Shown (of_meaning a (of_entity a x) s).0 (of_meaning b (of_entity b x) t) t
+  entity_shown None s t = tt
+  entity_shown (Some (entity.Class class)) s t = tt
+  entity_shown (Some (entity.Function f)) s t = tt
+  entity_shown (Some (entity.Constant k)) s t = constant_shown (nat_lt k a.known) k t refl
+
+  abbrev Bare : Name → State → Typed × State
+  Bare text t = of_meaning b (of_entity b (entity_named a.names text)) t
+
+  member_shown : (x : Option Member) (text : Name) (s t : State) → Shown (of_meaning a (member_or_file x a text) s).0 (Bare text t) t
+  member_shown None text s t = entity_shown (entity_named a.names text) s t
   member_shown (Some (member.Field declared offset)) text s t = shown_never _ _ t (placed_never declared.ty declared.shape _)
   member_shown (Some (member.Method f)) text s t = tt
 
-  outside_shown : (class : Option ClassId) (text : Name) (s t : State) → Shown (of_meaning a (outside_by class a text) s).0 (of_meaning b (of_file a text) t) t
-  outside_shown None text s t = of_meaning_shown (of_file a text) s t
+  outside_shown : (class : Option ClassId) (text : Name) (s t : State) → Shown (of_meaning a (outside_by class a text) s).0 (Bare text t) t
+  outside_shown None text s t = entity_shown (entity_named a.names text) s t
   outside_shown (Some class) text s t = member_shown (member_of a class text) text s t
 
-  variable_shown : (x : Option Found) (text : Name) (s t : State) → Shown (of_meaning a (variable_or x a text) s).0 (of_meaning b (of_file a text) t) t
+  variable_shown : (x : Option Found) (text : Name) (s t : State) → Shown (of_meaning a (variable_or x a text) s).0 (Bare text t) t
   variable_shown None text s t = outside_shown a.class text s t
   variable_shown (Some found) text s t = shown_never _ _ t (placed_never found.declared.ty found.declared.shape _)
 
