@@ -41,3 +41,4 @@ pub mod FinalLaws
 pub mod ConstructorLaws
 pub mod SetItems
 pub mod SetsAll
+pub mod OneAnswerLaws

@@ -1,30 +1,22 @@
 //! A source that breaks no rule of sharing has one answer.
 #![tactic(auto)]
 
-ghost use Rattle.std.specs.Prelude.{◌≡◌, ℕ, ℤ, List, [], length};
-ghost use Rattle.cc_core.specs.Config.{Config};
-ghost use Rattle.cc_core.specs.Names.{Name};
-ghost use Rattle.cc_core.specs.Steps.{Run, IsAtRest, start};
+ghost use Rattle.std.specs.Prelude.{◌≡◌, []};
 ghost use Rattle.cc_core.specs.Types.{Types};
-ghost use Rattle.cc_core.specs.View.{program_of};
-ghost use Rattle.cc_one_answer.specs.Answer.{HasOneAnswer};
 ghost use Rattle.cc_one_answer.specs.Determinate.{IsDeterminate};
+ghost use Rattle.cc_shared.specs.OneAnswer.{OneRunDecides, core_of};
 ghost use Rattle.cc_tree.specs.declared.declarations.Program.{Program};
-ghost use Rattle.cc_types.specs.Program.{IsSpelled, IsWellFormed, core_program, rules_shared};
+ghost use Rattle.cc_types.specs.Program.{IsSpelled, IsWellFormed, rules_shared};
 
 /// The front end leaves a determinate program, with a table of types, of a source that is spelled by some tokens, is well formed and breaks
 /// no rule of sharing.
 pub fn shared_nothing_is_determinate()
-    ensures { (p : Program) → IsSpelled p → IsWellFormed p → rules_shared p ≡ []
-        → (y : Types) × IsDeterminate (program_of (core_program p)) y }
+    ensures { (p : Program) → IsSpelled p → IsWellFormed p → rules_shared p ≡ [] → (y : Types) × IsDeterminate (core_of p) y }
 {}
 
 /// One answer. Where such a source comes to rest in one run from some ints, every run from them comes to rest after as many steps in the
 /// same configuration, with the same output, result, sync values and blocked threads; and none meets a fault. Nothing is promised where no
 /// run comes to rest.
 pub fn source_has_one_answer()
-    ensures { (p : Program) → IsSpelled p → IsWellFormed p → rules_shared p ≡ []
-        → (ns : List ℤ) (ts : List Name) (r : Config) → Run (program_of (core_program p)) ts (start (program_of (core_program p)) ns) r
-        → IsAtRest (program_of (core_program p)) r
-        → HasOneAnswer (program_of (core_program p)) (start (program_of (core_program p)) ns) (length ts) r }
+    ensures { (p : Program) → IsSpelled p → IsWellFormed p → rules_shared p ≡ [] → OneRunDecides p }
 {}

@@ -1,10 +1,13 @@
 -- What `least` gives is a broken rule before which there is no other.
-use Rattle.std.proofs.Common.{◌≡◌, ℕ, Bool, true, false, ◌==◌, nat_lt, if◌then◌else◌, List, [], ◌∷◌, ◌++◌, All, Option, Some, None, refl, sym, subst, arith, append_assoc, append-nil}
+use Rattle.std.proofs.Common.{◌≡◌, ℕ, Bool, true, false, ◌==◌, nat_lt, if◌then◌else◌, List, [], ◌∷◌, ◌++◌, All, Option, Some, None, refl, sym, ap, subst, arith, append_assoc, append-nil}
 use Rattle.std.proofs.lemmas.List.Elements.{All-push, All-weaker, Contains-push, Contains-append_left, All-nil}
+use Rattle.std.proofs.lemmas.Bool.{true≢false}
 use Rattle.std.proofs.lemmas.Bool.Decides.{nat_tests}
 use Rattle.cc_scopes.specs.declared.sharing.Share.{Share}
 use Rattle.cc_scopes.specs.Sharing.{share_number}
-use Rattle.sharing_check.specs.Sharing.{is_before, earlier, least_from, least, IsLeast}
+use Rattle.sharing_check.specs.declared.answer.Sharing.{Sharing}
+use Rattle.sharing_check.specs.declared.answer.Sharing.TheVariants.{Determinate, Shared}
+use Rattle.sharing_check.specs.Sharing.{is_before, earlier, least_from, least, IsLeast, answer, sharing_of}
 
 abbrev by_both : (la na lb nb : ℕ) → Bool
 by_both la na lb nb = if la == lb then nat_lt na nb else nat_lt la lb
@@ -39,3 +42,17 @@ is_least_from seen found (next ∷ more) holds =
 
 pub is_least : (shares : List Share) → IsLeast shares (least shares)
 is_least shares = is_least_from [] None shares refl
+
+-- whether a rule is named
+names_rule : Sharing → Bool
+names_rule Determinate = false
+names_rule (Shared rule line) = true
+
+determinate_least : (shares : List Share) (found : Option Share) → IsLeast shares found → answer found ≡ Determinate → shares ≡ []
+unfolding names_rule
+determinate_least shares None none is = none
+determinate_least shares (Some share) least_one is = absurd (true≢false (ap names_rule is))
+
+-- where the answer is that the program is determinate, no rule is broken
+pub none_shared : (shares : List Share) → sharing_of shares ≡ Determinate → shares ≡ []
+none_shared shares is = determinate_least shares (least shares) (is_least shares) is

@@ -10,7 +10,7 @@ run-requires c = (c.program.result.now, c.in-Ok.ensures)
 pub returns-in_ok-outcome-in-Ok : goal.returns-in_ok-outcome-in-Ok
 returns-in_ok-outcome-in-Ok c =
     let form = ap early_of (sym c.program.ensures.value) ∙ c.in-Ok.ensures in
-    IfOk-weaker c.report.result _ _ (was_run c.args.checked.now c.in-Ok.early c.in_ok-outcome-in-Ok.outcome.output c.in_ok-outcome-in-Ok.outcome.standing c.sharing.result form c.in_ok-outcome-in-Ok.ensures c.sharing.ensures) c.report.ensures
+    IfOk-weaker c.report.result _ _ (was_run c.args.checked.now c.in-Ok.early c.in_ok-outcome-in-Ok.outcome.output c.in_ok-outcome-in-Ok.outcome.standing c.sharing.result form c.in_ok-outcome-in-Ok.ensures c.sharing.ensures.answer) c.report.ensures
 
 pub returns-in-Err-NotYet : goal.returns-in-Err-NotYet
 returns-in-Err-NotYet c =
