@@ -9,5 +9,5 @@ returns-clause-answer c = c.sharing_of.ensures ∙ ap sharing_of c.shared.ensure
 
 pub returns-clause-one_answer : goal.returns-clause-one_answer
 returns-clause-one_answer c = λ is.
-    one_run_decides c.args.checked.now c.program.ensures.spelled c.program.ensures.well_formed
+    one_run_decides c.args.checked.now c.program-program.ensures.spelled c.program-program.ensures.well_formed
     (sym c.shared.ensures ∙ none_shared c.shared.result.now (sym c.sharing_of.ensures ∙ is))
