@@ -1,34 +1,30 @@
 -- The program that the front end leaves is determinate, where its constructors put what their classes' types say.
-use Rattle.std.proofs.Common.{◌≡◌, ◌≢◌, ℕ, zero, suc, ◌+◌, ◌<◌, ◌≤◌, Bool, true, false, List, [], ◌∷◌, ◌++◌, length, map, Option, Some, None, refl, sym, ap, subst, ◌∙◌, arith, ◌⊎◌, inl, inr, ⊎_elim, append-nil}
+use Rattle.std.proofs.Common.{◌≡◌, ℕ, zero, suc, Bool, false, List, [], ◌∷◌, ◌++◌, length, map, Some, refl, sym, ap, subst, ◌∙◌, ◌⊎◌, inl, inr, ⊎_elim, append-nil}
 use Rattle.std.specs.Prelude.{slice_get, get_or}
-use Rattle.std.proofs.lemmas.Bool.{true≢false}
-use Rattle.std.proofs.lemmas.Option.{none-some}
 use Rattle.cc_core.specs.Core as core
 use Rattle.cc_core.specs.Core.{Program, function, shapes, class_shape, no_function, no_class}
 use Rattle.cc_core.specs.Effects.{numbers}
-use Rattle.cc_core.specs.Types.{Target, FunctionTypes, Types, no_types, function_types}
-use Rattle.cc_core.specs.View.{function_of, program_of, stmts_of}
+use Rattle.cc_core.specs.Types.{FunctionTypes, Types, no_types}
+use Rattle.cc_core.specs.View.{function_of}
 use Rattle.cc_core.specs.declared.program.Function.{Function as CoreFunction}
-use Rattle.cc_one_answer.specs.Determinate.{DetStmts, AreParameters, AreRuns, AreSets, IsDeterminate}
-use Rattle.cc_ops.specs.Shapes.{shape_of}
+use Rattle.cc_one_answer.specs.Determinate.{DetStmts, AreParameters}
 use Rattle.cc_ops.specs.declared.shape.ClassShape.{ClassShape}
 use Rattle.cc_functions.specs.declared.done.Done.{Done}
-use Rattle.cc_functions.specs.Items.{run_of, filled, filled_runs, nothing_done, no_members, with_function, with_class, member_name, field_member, function_member, member_by, members_from as read_members, class_item}
-use Rattle.cc_functions.specs.Items.{is_main, constant_item, function_item, class_id, after_constant, after_class, after_function, items, items_from}
-use Rattle.cc_names.specs.Names.{NameTables, names_of}
+use Rattle.cc_functions.specs.Items.{no_members, field_member, function_member, member_by, members_from as read_members, class_item}
+use Rattle.cc_functions.specs.Items.{function_item, class_id, after_constant, after_class, after_function, items_from}
+use Rattle.cc_names.specs.Names.{NameTables}
 use Rattle.cc_scopes.specs.declared.state.State.{State}
 use Rattle.cc_scopes.specs.declared.tables.Signature.{Signature}
 use Rattle.cc_scopes.specs.declared.tables.Tables.{Tables}
-use Rattle.cc_scopes.specs.Elab.{nothing_yet}
 use Rattle.cc_scopes.specs.Scope.{Context}
-use Rattle.cc_tables.specs.Tables.{outside, functions_of, constants_of, tables_of}
+use Rattle.cc_tables.specs.Tables.{outside}
 use Rattle.cc_tree.specs.declared.declarations.ClassDecl.{ClassDecl}
 use Rattle.cc_tree.specs.declared.declarations.Item.{Item}
 use Rattle.cc_tree.specs.declared.declarations.Item.TheVariants as item
 use Rattle.cc_tree.specs.declared.declarations.Member.{Member}
 use Rattle.cc_tree.specs.declared.declarations.Member.TheVariants as member
 use Rattle.cc_shared.proofs.FunctionLaws.{FunctionFits}
-use Rattle.cc_shared.proofs.ItemLaws.{AllFit, member_functions, members_functions, items_functions}
+use Rattle.cc_shared.proofs.ItemLaws.{AllFit, members_functions, items_functions}
 
 assoc : {A : Type 0} (xs ys zs : List A) → (xs ++ ys) ++ zs ≡ xs ++ (ys ++ zs)
 assoc [] ys zs = refl

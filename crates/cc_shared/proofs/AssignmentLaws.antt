@@ -1,16 +1,13 @@
 -- Assignments.
-use Rattle.std.proofs.Common.{◌≡◌, ℕ, Bool, true, false, cond, ◌∙◌, sym, ap, subst, List, [], ◌∷◌, ◌++◌, Option, Some, None, refl, ◌⊎◌, inl, inr}
+use Rattle.std.proofs.Common.{◌≡◌, ℕ, Bool, true, false, cond, ◌∙◌, sym, ap, subst, List, Option, Some, None, refl, inl, inr}
 use Rattle.std.specs.Prelude.{slice_get, ◌==◌}
 use Rattle.std.proofs.lemmas.Bool.{eqb-true, true≢false}
 use Rattle.std.proofs.lemmas.Option.{none-some}
 use Rattle.cc_core.specs.declared.expression.Expression.{Expression}
-use Rattle.cc_core.specs.declared.statement.Statement.{Statement}
-use Rattle.cc_core.specs.declared.statement.Statement.TheVariants as s
 use Rattle.cc_core.specs.Types.{ValueType, AnInt, FunctionTypes, Types, IsOwnPlace}
 use Rattle.cc_core.specs.View.{term_of}
-use Rattle.cc_one_answer.specs.Sorts.{Sort, NamedCell, IsCell}
+use Rattle.cc_one_answer.specs.Sorts.{Sort, NamedCell}
 use Rattle.cc_one_answer.specs.Determinate.{MayWrite}
-use Rattle.cc_ops.specs.declared.operator.Op.{Op}
 use Rattle.cc_tree.specs.declared.expressions.BinaryOp.{BinaryOp}
 use Rattle.cc_tree.specs.declared.expressions.Expr.{Expr}
 use Rattle.cc_tree.specs.declared.statements.AssignOp.{AssignOp}
@@ -20,20 +17,17 @@ use Rattle.cc_scopes.specs.declared.typed.Operand.{Operand}
 use Rattle.cc_scopes.specs.declared.typed.Place.{Place}
 use Rattle.cc_scopes.specs.declared.typed.Root.{Root}
 use Rattle.cc_scopes.specs.declared.typed.Root.TheVariants as root
-use Rattle.cc_scopes.specs.declared.typed.Typed.{Typed}
-use Rattle.cc_scopes.specs.declared.typed.Typed.TheVariants as typed
 use Rattle.cc_scopes.specs.declared.types.Declared.{Declared}
 use Rattle.cc_scopes.specs.declared.types.Ty.{Ty}
 use Rattle.cc_scopes.specs.declared.types.Ty.TheVariants as ty
-use Rattle.cc_scopes.specs.Elab.{Elab, ◌>>=◌, ◌>>◌, pure}
 use Rattle.cc_scopes.specs.Scope.{Context}
 use Rattle.cc_typing.specs.Whole.{written_rule}
 use Rattle.cc_elaboration.specs.declared.assignments.Assignment.{Assignment}
 use Rattle.cc_elaboration.specs.Assignments.{operator, combined, term_of as value_term, combined_value, value_by, assigned, assignment_to, no_assignment, assignment_at, assignment, stored, assign}
-use Rattle.cc_shared.proofs.Runs.{IsThere, Anything, Runs, given, always, bind, next, after, done}
+use Rattle.cc_shared.proofs.Runs.{IsThere, given, always, bind, next, after, done}
 use Rattle.cc_shared.proofs.Forms.{StmtFits, empty_fits, assign_fits}
 use Rattle.cc_shared.proofs.TypesOf.{value_type, target_of, IsCellType}
-use Rattle.cc_shared.proofs.Det.{Stands, Reads, Values, OperandFits, OwnBy, PlaceFits, TypedFits}
+use Rattle.cc_shared.proofs.Det.{Stands, Reads, Values, OwnBy, PlaceFits}
 use Rattle.cc_shared.proofs.OperatorLaws.{EachType, joined_runs, each_value_runs}
 use Rattle.cc_shared.proofs.ExpressionLaws.{MayBeWritten, expr_runs, operand_runs, fitting_runs, place_runs, written_runs}
 

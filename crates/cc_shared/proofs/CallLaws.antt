@@ -1,12 +1,12 @@
 -- Arguments and calls.
-use Rattle.std.proofs.Common.{◌≡◌, ◌≢◌, map, ℕ, zero, suc, ◌+◌, ◌<◌, ◌≤◌, Bool, true, false, cond, List, [], ◌∷◌, ◌++◌, length, Option, Some, None, refl, sym, ap, subst, ◌∙◌, arith, length-append}
+use Rattle.std.proofs.Common.{◌≡◌, ◌≢◌, map, ℕ, Bool, true, false, cond, List, [], ◌∷◌, ◌++◌, length, Option, Some, None, refl, sym, subst, arith}
 use Rattle.std.proofs.lemmas.Bool.{eqb-true, true≢false}
 use Rattle.std.proofs.lemmas.Option.{none-some}
 use Rattle.std.specs.Prelude.{slice_get, get_or, not, ◌==◌, ◌&&◌, ◌||◌}
 use Rattle.cc_core.specs.declared.expression.Expression.{Expression}
 use Rattle.cc_core.specs.declared.expression.Expression.TheVariants as e
 use Rattle.cc_core.specs.declared.expression.How.TheVariants as how
-use Rattle.cc_core.specs.Types.{ValueType, AnInt, AnAddress, ObjectOf, FunctionTypes, Types, function_types}
+use Rattle.cc_core.specs.Types.{AnAddress, ObjectOf, FunctionTypes, Types, function_types}
 use Rattle.cc_scopes.specs.declared.state.Local.{Local}
 use Rattle.cc_scopes.specs.declared.types.Declared.{Declared}
 use Rattle.cc_scopes.specs.declared.types.Target as pointed
@@ -26,14 +26,13 @@ use Rattle.cc_scopes.specs.declared.typed.Typed.{Typed}
 use Rattle.cc_scopes.specs.declared.typed.Typed.TheVariants as typed
 use Rattle.cc_scopes.specs.declared.types.Ty.{Ty}
 use Rattle.cc_scopes.specs.declared.types.Ty.TheVariants as ty
-use Rattle.cc_scopes.specs.Elab.{Elab, ◌>>=◌, ◌>>◌, pure}
 use Rattle.cc_scopes.specs.Scope.{Context}
-use Rattle.cc_typing.specs.Calls.{no_args, object_passed, passed, pushed, with_arg, any_local, all_fit, args_rule, callee_rule, rule_or, call_rule, is_remote, call_term, enter, entered}
+use Rattle.cc_typing.specs.Calls.{no_args, object_passed, passed, with_arg, any_local, all_fit, args_rule, callee_rule, rule_or, call_rule, is_remote, call_term, enter, entered}
 use Rattle.cc_typing.specs.Calls.{given as value_given, entered_unless, called_as, called, called_name, call_named}
-use Rattle.cc_shared.proofs.Runs.{IsThere, Anything, Runs, given, always, gives, bind, next, done}
+use Rattle.cc_shared.proofs.Runs.{IsThere, Anything, given, gives, next, done}
 use Rattle.cc_shared.proofs.Forms.{this_values, call_values, no_values, more_values}
 use Rattle.cc_shared.proofs.TypesOf.{target_type, value_type, IsCellType, IsResultType, AllCellTypes}
-use Rattle.cc_shared.proofs.Det.{SignatureFits, MakerFits, Matches, Stands, Reads, Values, AllValues, ArgumentBy, ArgumentFits, argument_by, OperandBy, OperandFits, OperandsFit, MeaningFits, TypedFits}
+use Rattle.cc_shared.proofs.Det.{SignatureFits, MakerFits, Stands, Reads, Values, AllValues, ArgumentBy, ArgumentFits, argument_by, OperandFits, OperandsFit, MeaningFits, TypedFits}
 use Rattle.cc_shared.proofs.StateLaws.{block_runs, call_runs}
 use Rattle.cc_shared.proofs.ScopeLaws.{never, decay_runs}
 use Rattle.cc_shared.proofs.OperatorLaws.{left_true, right_true}

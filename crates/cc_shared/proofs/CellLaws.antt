@@ -1,8 +1,8 @@
 -- The cells of each class of a program are those that the tables have.
-use Rattle.std.proofs.Common.{◌≡◌, ℕ, zero, suc, ◌+◌, ◌≤◌, ℤ, Bool, true, false, List, [], ◌∷◌, ◌++◌, length, map, Option, Some, None, refl, sym, ap, subst, ◌∙◌, arith, append-nil}
+use Rattle.std.proofs.Common.{◌≡◌, ℕ, zero, suc, ◌+◌, ◌≤◌, ℤ, true, List, [], ◌∷◌, ◌++◌, map, Option, Some, None, refl, sym, ap, subst, ◌∙◌, arith, append-nil}
 use Rattle.std.specs.Prelude.{slice_get, get_or, nat_lt}
 use Rattle.cc_core.specs.Core.{no_class}
-use Rattle.cc_core.specs.Types.{Target, Types}
+use Rattle.cc_core.specs.Types.{Types}
 use Rattle.cc_names.specs.Declarations.{after_methods}
 use Rattle.cc_names.specs.Names.{NameTables}
 use Rattle.cc_one_answer.specs.Determinate.{AreRuns}
@@ -10,15 +10,14 @@ use Rattle.cc_ops.specs.Shapes.{shape_of}
 use Rattle.cc_names.specs.declared.declarations.ClassId.{ClassId}
 use Rattle.cc_ops.specs.declared.shape.ClassShape.{ClassShape}
 use Rattle.cc_functions.specs.declared.done.Done.{Done}
-use Rattle.cc_functions.specs.Constructors.{constructor_at}
-use Rattle.cc_functions.specs.Items.{run_of, filled, filled_runs, no_members, with_function, with_class, member_name, field_member, function_member, member_by, members_from as read_members, class_item}
-use Rattle.cc_functions.specs.Items.{is_main, constant_item, function_item, class_id, after_constant, after_class, after_function, items_from}
+use Rattle.cc_functions.specs.Items.{run_of, filled, filled_runs, no_members, field_member, function_member, member_by, members_from as read_members, class_item}
+use Rattle.cc_functions.specs.Items.{function_item, class_id, after_constant, after_class, after_function, items_from}
 use Rattle.cc_scopes.specs.declared.state.State.{State}
 use Rattle.cc_scopes.specs.declared.tables.Class.{Class}
 use Rattle.cc_scopes.specs.declared.tables.Tables.{Tables}
 use Rattle.cc_scopes.specs.Meaning.{value_in}
 use Rattle.cc_scopes.specs.Scope.{Context}
-use Rattle.cc_tables.specs.Tables.{outside, class_of, classes_from}
+use Rattle.cc_tables.specs.Tables.{outside, classes_from}
 use Rattle.cc_tree.specs.declared.declarations.ClassDecl.{ClassDecl}
 use Rattle.cc_tree.specs.declared.declarations.Item.{Item}
 use Rattle.cc_tree.specs.declared.declarations.Item.TheVariants as item

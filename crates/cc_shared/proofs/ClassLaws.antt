@@ -1,26 +1,24 @@
 -- What the tables of a program hold of its classes whose items are read without a broken rule: the types of fields and constructors.
-use Rattle.std.proofs.Common.{◌≡◌, ℕ, zero, suc, ◌+◌, ◌<◌, ◌≤◌, ℤ, pos, negsuc, Bool, true, false, not, cond, List, [], ◌∷◌, ◌++◌, length, map, Option, Some, None, refl, sym, ap, subst, ◌∙◌, arith, append-nil}
-use Rattle.std.specs.Prelude.{slice_get, ◌&&◌, ◌||◌, int_lt, if◌then◌else◌, bytes_eq}
+use Rattle.std.proofs.Common.{◌≡◌, ℕ, zero, suc, ◌+◌, ◌≤◌, ℤ, pos, negsuc, Bool, true, false, List, [], ◌∷◌, Option, Some, None, refl, sym, subst, ◌∙◌, arith}
+use Rattle.std.specs.Prelude.{◌||◌, int_lt, if◌then◌else◌}
 use Rattle.std.proofs.lemmas.Bool.{true≢false, ltb-false}
-use Rattle.cc_core.specs.Types.{FunctionTypes, Types, no_types}
+use Rattle.cc_core.specs.Types.{no_types}
 use Rattle.cc_names.specs.Declarations.{after_methods}
 use Rattle.cc_names.specs.Names.{NameTables}
 use Rattle.cc_names.specs.Table.{Name}
-use Rattle.cc_names.specs.declared.broken.Broken.{Broken}
 use Rattle.cc_names.specs.declared.broken.Broken.TheVariants.{Limit}
 use Rattle.cc_names.specs.declared.rule.StaticLimit.TheVariants.{ArrayLength}
 use Rattle.cc_ops.specs.declared.shape.ClassShape.{ClassShape}
 use Rattle.cc_declared.specs.declared.role.Role.TheVariants as role
-use Rattle.cc_declared.specs.Slots.{typed_as, known_length, array_of, arrayed_by, arrayed, with_length, slot, field, value_type as declared_type}
+use Rattle.cc_declared.specs.Slots.{typed_as, known_length, arrayed_by, arrayed, with_length, slot, field}
 use Rattle.cc_elaboration.specs.Statements.{at_line}
 use Rattle.cc_functions.specs.declared.done.Done.{Done}
-use Rattle.cc_functions.specs.Constructors.{param_in, params_in, in_constructor, constructor_at, constructor, sets_from}
+use Rattle.cc_functions.specs.Constructors.{param_in, params_in, in_constructor, constructor_at, constructor}
 use Rattle.cc_functions.specs.Functions.{begin, param}
-use Rattle.cc_functions.specs.Items.{with_function, no_members, member_name, field_member, function_member, member_by, members_from as read_members, class_item}
-use Rattle.cc_functions.specs.Items.{is_main, constant_item, function_item, class_id, after_constant, after_class, after_function, items_from}
+use Rattle.cc_functions.specs.Items.{no_members, field_member, function_member, member_by, members_from as read_members, class_item}
+use Rattle.cc_functions.specs.Items.{function_item, class_id, after_constant, after_class, after_function, items_from}
 use Rattle.cc_scopes.specs.declared.state.State.{State}
 use Rattle.cc_scopes.specs.declared.tables.Class.{Class}
-use Rattle.cc_scopes.specs.declared.tables.Member.{Member as Entry}
 use Rattle.cc_scopes.specs.declared.tables.Member.TheVariants as entry
 use Rattle.cc_scopes.specs.declared.tables.Tables.{Tables}
 use Rattle.cc_scopes.specs.declared.typed.Typed.{Typed}
@@ -31,11 +29,10 @@ use Rattle.cc_scopes.specs.declared.types.Shape.TheVariants as shape
 use Rattle.cc_scopes.specs.Elab.{nothing_yet}
 use Rattle.cc_scopes.specs.Lengths.{no_length, natural, length_in_range, value_length, length_of}
 use Rattle.cc_scopes.specs.Scope.{Context}
-use Rattle.cc_tables.specs.Tables.{outside, width, field_of, param_types, members_from, constructor_types, class_of, classes_from}
+use Rattle.cc_tables.specs.Tables.{outside, width, field_of, param_types, members_from, constructor_types, classes_from}
 use Rattle.cc_typing.specs.Expr.{expr}
 use Rattle.cc_typing.specs.Whole.{array_length}
 use Rattle.cc_tree.specs.declared.declarations.ClassDecl.{ClassDecl}
-use Rattle.cc_tree.specs.declared.declarations.Function.{Function}
 use Rattle.cc_tree.specs.declared.declarations.Item.{Item}
 use Rattle.cc_tree.specs.declared.declarations.Item.TheVariants as item
 use Rattle.cc_tree.specs.declared.declarations.Member.{Member}
@@ -44,18 +41,18 @@ use Rattle.cc_tree.specs.declared.declarations.Param.{Param}
 use Rattle.cc_tree.specs.declared.expressions.Expr.{Expr}
 use Rattle.cc_tree.specs.declared.statements.Decl.{Decl}
 use Rattle.cc_tree.specs.declared.statements.Stmt.{Stmt}
-use Rattle.cc_shared.proofs.TypesOf.{value_type, target_of, IsCellType, AllCellTypes}
+use Rattle.cc_shared.proofs.TypesOf.{IsCellType, AllCellTypes}
 use Rattle.cc_shared.proofs.StateLaws.{not_empty, IfThere}
 use Rattle.cc_shared.proofs.LengthLaws.{IsLength}
 use Rattle.cc_shared.proofs.ExpressionLaws.{array_length_runs}
 use Rattle.cc_shared.proofs.DeclaredLaws.{DeclaredFits, ShapeFits}
 use Rattle.cc_shared.proofs.Proper.{EachOf}
 use Rattle.cc_shared.proofs.GrammarLaws.{ProperMember, ProperItem}
-use Rattle.cc_shared.proofs.CleanLaws.{Clean, typed_fits, note_kept, param_is, param_type_fits}
+use Rattle.cc_shared.proofs.CleanLaws.{Clean, typed_fits, note_kept, param_type_fits}
 use Rattle.cc_shared.proofs.FunctionLaws.{parameter_value}
-use Rattle.cc_shared.proofs.KnownLaws.{param_same, each_got}
+use Rattle.cc_shared.proofs.KnownLaws.{param_same}
 use Rattle.cc_shared.proofs.SameLaws.{typed_same}
-use Rattle.cc_shared.proofs.QuietLaws.{Quiet, quiet_ends, no_functions, member_quiet, members_quiet, sets_quiet, params_in_quiet, items_quiet}
+use Rattle.cc_shared.proofs.QuietLaws.{Quiet, quiet_ends, no_functions, members_quiet, sets_quiet, params_in_quiet, items_quiet}
 use Rattle.cc_shared.proofs.TypeTables.{IsFieldShape, EntryKnown}
 
 -- ---- each length is one

@@ -1,11 +1,8 @@
 -- Readings that break no rule leave what was collected before, and what the parameters of a function are.
-use Rattle.std.proofs.Common.{◌≡◌, ◌≢◌, ℕ, zero, suc, ◌+◌, ◌<◌, ◌≤◌, Bool, true, false, not, cond, List, [], ◌∷◌, ◌++◌, length, map, Option, Some, None, refl, sym, ap, subst, ◌∙◌, arith, append-nil, length-append, inl, inr}
-use Rattle.std.specs.Prelude.{slice_get, ◌&&◌}
-use Rattle.cc_core.specs.Types.{IsAmong}
-use Rattle.cc_core.specs.Effects.{numbers}
+use Rattle.std.proofs.Common.{◌≡◌, ℕ, suc, ◌+◌, Bool, true, false, not, cond, List, [], ◌∷◌, ◌++◌, length, Option, Some, None, refl, sym, ap, subst, ◌∙◌, arith, append-nil, length-append}
+use Rattle.std.specs.Prelude.{◌&&◌}
 use Rattle.cc_names.specs.Names.{class_named}
 use Rattle.cc_names.specs.Table.{Name}
-use Rattle.cc_names.specs.declared.broken.Broken.{Broken}
 use Rattle.cc_names.specs.declared.broken.Broken.TheVariants.{Rule}
 use Rattle.cc_names.specs.declared.declarations.ClassId.{ClassId}
 use Rattle.cc_names.specs.declared.rule.StaticRule.{StaticRule}
@@ -21,18 +18,14 @@ use Rattle.cc_functions.specs.Functions.{is_plain_int, param_at, param, params_f
 use Rattle.cc_scopes.specs.declared.state.Local.{Local}
 use Rattle.cc_scopes.specs.declared.state.State.{State}
 use Rattle.cc_scopes.specs.declared.types.Declared.{Declared}
-use Rattle.cc_scopes.specs.Elab.{Elab, ◌>>=◌, ◌>>◌, pure, note}
-use Rattle.cc_scopes.specs.Scope.{Context, is_here, twice, bring, number, declare}
+use Rattle.cc_scopes.specs.Elab.{note}
+use Rattle.cc_scopes.specs.Scope.{Context, is_here, twice, declare}
 use Rattle.cc_tree.specs.declared.declarations.Param.{Param}
 use Rattle.cc_tree.specs.declared.statements.Base.{Base}
 use Rattle.cc_tree.specs.declared.statements.Base.TheVariants as base
 use Rattle.cc_tree.specs.declared.statements.TypeName.{TypeName}
-use Rattle.cc_shared.proofs.Runs.{Runs}
-use Rattle.cc_shared.proofs.TypesOf.{IsCellType}
-use Rattle.cc_shared.proofs.Det.{Ends, VariableFits, LocalsFit}
 use Rattle.cc_shared.proofs.StateLaws.{not_empty}
 use Rattle.cc_shared.proofs.DeclaredLaws.{DeclaredFits, WrittenFits, int_type_fits, class_type_fits, allowed_fits}
-use Rattle.cc_shared.proofs.Goes.{PartsFrom, Good}
 
 -- no rule is broken
 abbrev pub Clean : State → Type 0

@@ -1,23 +1,19 @@
 -- Each named constant of a program that is read without a broken rule has a value.
-use Rattle.std.proofs.Common.{◌≡◌, ℕ, zero, suc, ◌+◌, ℤ, Bool, true, false, List, [], ◌∷◌, map, Option, Some, None, refl, sym, ap, subst, ◌∙◌}
-use Rattle.std.specs.Prelude.{slice_get, nat_lt}
+use Rattle.std.proofs.Common.{◌≡◌, ℕ, ℤ, List, [], ◌∷◌, map, Option, Some, None, refl, sym, subst}
 use Rattle.std.proofs.lemmas.Option.{none-some}
 use Rattle.cc_core.specs.Types.{FunctionTypes, Types, no_types}
 use Rattle.cc_names.specs.Names.{NameTables}
 use Rattle.cc_functions.specs.declared.done.Done.{Done}
 use Rattle.cc_functions.specs.Functions.{begin}
-use Rattle.cc_functions.specs.Items.{no_members, constant_item, function_item, class_item, class_id, after_constant, after_class, after_function, items_from}
+use Rattle.cc_functions.specs.Items.{constant_item, function_item, class_item, after_constant, after_class, after_function, items_from}
 use Rattle.cc_scopes.specs.declared.state.State.{State}
 use Rattle.cc_scopes.specs.declared.tables.Tables.{Tables}
-use Rattle.cc_scopes.specs.declared.types.Declared.{Declared}
-use Rattle.cc_scopes.specs.Meaning.{constant_value, value_in}
-use Rattle.cc_scopes.specs.Scope.{Context}
 use Rattle.cc_tables.specs.Tables.{outside}
 use Rattle.cc_tree.specs.declared.declarations.Item.{Item}
 use Rattle.cc_tree.specs.declared.declarations.Item.TheVariants as item
 use Rattle.cc_tree.specs.declared.expressions.Expr.{Expr}
 use Rattle.cc_typing.specs.Whole.{constant}
-use Rattle.cc_shared.proofs.KnownConstants.{EachConstant, AreKnown, HasValue}
+use Rattle.cc_shared.proofs.KnownConstants.{EachConstant, HasValue}
 use Rattle.cc_shared.proofs.Runs.{IsThere, Anything}
 use Rattle.cc_shared.proofs.TypesOf.{target_of}
 use Rattle.cc_shared.proofs.Det.{Matches, Stands}

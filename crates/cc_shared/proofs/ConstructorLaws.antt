@@ -1,7 +1,6 @@
 -- A constructor's assignments have the types of the class.
-use Rattle.std.proofs.Common.{◌≡◌, ℕ, zero, suc, ◌+◌, ◌<◌, ◌≤◌, ℤ, Bool, true, false, not, cond, List, [], ◌∷◌, ◌++◌, length, map, Option, Some, None, refl, sym, ap, subst, ◌∙◌, arith, append-nil}
-use Rattle.std.specs.Prelude.{slice_get, get_or, ◌&&◌}
-use Rattle.std.proofs.lemmas.Bool.{true≢false}
+use Rattle.std.proofs.Common.{◌≡◌, ℕ, zero, suc, ◌+◌, ◌<◌, Bool, true, false, List, [], ◌∷◌, map, Option, Some, None, refl, sym, ap, subst, ◌∙◌}
+use Rattle.std.specs.Prelude.{slice_get}
 use Rattle.std.proofs.lemmas.Option.{none-some}
 use Rattle.cc_core.specs.declared.expression.Expression.{Expression, out-Expression}
 use Rattle.cc_core.specs.declared.expression.Expression.TheOpen.{Expression-F}
@@ -12,36 +11,31 @@ use Rattle.cc_core.specs.View.{term_of}
 use Rattle.cc_one_answer.specs.Sorts.{Sort, Valued, variable_sort, member, IsCell}
 use Rattle.cc_one_answer.specs.Determinate.{DetTerm, IsBuiltFrom, IsSetAt}
 use Rattle.cc_ops.proofs.Exprs.{expr_of-Op, expr_of-And, expr_of-Or}
-use Rattle.cc_ops.specs.Shapes.{expr_of, index_of, set_of as shape_set}
-use Rattle.cc_ops.specs.declared.operator.Op.{Op}
+use Rattle.cc_ops.specs.Shapes.{expr_of, set_of as shape_set}
 use Rattle.cc_ops.specs.declared.build.BuildExpr.{BuildExpr}
 use Rattle.cc_ops.specs.declared.build.BuildExpr.TheVariants as build
 use Rattle.cc_ops.specs.declared.build.BuildSet.{BuildSet}
 use Rattle.cc_declared.specs.declared.role.Role.TheVariants as role
-use Rattle.cc_declared.specs.Slots.{value_type as declared_type}
 use Rattle.cc_elaboration.specs.declared.assignments.Assignment.{Assignment}
 use Rattle.cc_elaboration.specs.Assignments.{assignment}
 use Rattle.cc_elaboration.specs.Statements.{at_line}
-use Rattle.cc_functions.specs.Builds.{literal, param_by, param_at, applied, applied_both, both, either, built_by, built, built_to, build_of, own_offset, member_set, element_set, set_by as set_layer, set_of, names_own}
+use Rattle.cc_functions.specs.Builds.{literal, applied, applied_both, both, either, built_by, built, built_to, build_of, own_offset, member_set, element_set, set_by as set_layer, set_of, names_own}
 use Rattle.cc_functions.specs.Constructors.{set_or_refused, set_if, assigned_set, assigned, refused, set_by, set, with_set, sets_from}
 use Rattle.cc_scopes.specs.declared.state.Local.{Local}
 use Rattle.cc_scopes.specs.declared.state.State.{State}
 use Rattle.cc_scopes.specs.declared.types.Declared.{Declared}
 use Rattle.cc_scopes.specs.Scope.{Context}
-use Rattle.cc_tree.specs.declared.expressions.Expr.{Expr}
-use Rattle.cc_tree.specs.declared.statements.AssignOp.{AssignOp}
 use Rattle.cc_tree.specs.declared.statements.Stmt.{Stmt, out-Stmt}
 use Rattle.cc_tree.specs.declared.statements.StmtKind.TheOpen.{StmtKind-F}
 use Rattle.cc_shared.proofs.Runs.{IsThere}
-use Rattle.cc_shared.proofs.TypesOf.{value_type, target_of, IsResultType}
-use Rattle.cc_shared.proofs.Det.{Stands, LocalsFit, Sorted, Values, PlaceFits}
-use Rattle.cc_shared.proofs.StateLaws.{not_empty}
+use Rattle.cc_shared.proofs.TypesOf.{value_type, target_of}
+use Rattle.cc_shared.proofs.Det.{Stands, LocalsFit, Sorted, Values}
 use Rattle.cc_shared.proofs.AssignmentLaws.{AssignmentFits, assignment_runs}
 use Rattle.cc_shared.proofs.DeclaredLaws.{DeclaredFits}
 use Rattle.cc_shared.proofs.Proper.{Layer, layer, EachOf}
-use Rattle.cc_shared.proofs.CleanLaws.{Clean, AllParameters}
+use Rattle.cc_shared.proofs.CleanLaws.{AllParameters}
 use Rattle.cc_shared.proofs.FunctionLaws.{slice_mapped, parameter_target}
-use Rattle.cc_shared.proofs.QuietLaws.{Quiet, quiet_ends, other_never, assigned_set_kept, set_quiet, sets_quiet}
+use Rattle.cc_shared.proofs.QuietLaws.{Quiet, quiet_ends, other_never, assigned_set_kept, sets_quiet}
 use Rattle.cc_shared.proofs.SetLaws.{of_layer, rolled_index, rolled_load, own_term, own_cell, own_elements, applied_some, applied_both_some, both_some, either_some, param_read}
 
 some_inside : {A : Type 0} (x y : A) → Some x ≡ Some y → x ≡ y

@@ -1,12 +1,11 @@
 -- Declarations of variables.
-use Rattle.std.proofs.Common.{◌≡◌, ◌≢◌, ℕ, zero, suc, ◌+◌, ◌<◌, ◌≤◌, Bool, true, false, cond, ◌∙◌, sym, ap, subst, List, [], ◌∷◌, ◌++◌, length, Option, Some, None, refl, arith, inl, inr}
-use Rattle.std.specs.Prelude.{slice_get, get_or}
-use Rattle.cc_ops.specs.declared.kind.Kind.{Kind}
+use Rattle.std.proofs.Common.{◌≡◌, ℕ, ◌≤◌, Bool, true, false, cond, ◌∙◌, sym, ap, subst, List, [], ◌∷◌, ◌++◌, length, Option, Some, None, refl, inl}
+use Rattle.std.specs.Prelude.{slice_get}
 use Rattle.cc_core.specs.declared.expression.Expression.{Expression}
 use Rattle.cc_core.specs.declared.statement.Statement.{Statement}
 use Rattle.cc_core.specs.declared.statement.Statement.TheVariants as s
 use Rattle.cc_core.specs.Core.{Stmt}
-use Rattle.cc_core.specs.Types.{ValueType, AnInt, Cells, ObjectOf, FunctionTypes, Types, declares}
+use Rattle.cc_core.specs.Types.{Cells, ObjectOf, FunctionTypes, Types, declares}
 use Rattle.cc_core.specs.View.{stmt_of}
 use Rattle.cc_core.proofs.ViewLaws.{make_is, set_is, build_is}
 use Rattle.cc_one_answer.specs.Sorts.{is_sync}
@@ -16,10 +15,8 @@ use Rattle.cc_names.specs.declared.declarations.ClassId.{ClassId}
 use Rattle.cc_names.specs.declared.rule.StaticRule.{StaticRule}
 use Rattle.cc_names.specs.declared.rule.StaticRule.TheVariants as r
 use Rattle.cc_tree.specs.declared.expressions.Expr.{Expr}
-use Rattle.cc_tree.specs.declared.statements.Decl.{Decl}
 use Rattle.cc_tree.specs.declared.statements.Start.{Start}
 use Rattle.cc_tree.specs.declared.statements.Start.TheVariants as start
-use Rattle.cc_declared.specs.declared.role.Role.TheVariants as role
 use Rattle.cc_scopes.specs.declared.state.Local.{Local}
 use Rattle.cc_scopes.specs.declared.state.State.{State}
 use Rattle.cc_scopes.specs.declared.tables.Class.{Class}
@@ -28,25 +25,24 @@ use Rattle.cc_scopes.specs.declared.types.Shape.{Shape}
 use Rattle.cc_scopes.specs.declared.types.Shape.TheVariants as shape
 use Rattle.cc_scopes.specs.declared.types.Ty.{Ty}
 use Rattle.cc_scopes.specs.declared.types.Ty.TheVariants as ty
-use Rattle.cc_scopes.specs.Elab.{Elab, ◌>>=◌, ◌>>◌, pure, note}
+use Rattle.cc_scopes.specs.Elab.{note}
 use Rattle.cc_scopes.specs.Scope.{Context, is_here, twice, bring, number, declare}
 use Rattle.cc_scopes.specs.Types.{cell_kind}
 use Rattle.cc_scopes.specs.Meaning.{class_at}
 use Rattle.cc_typing.specs.declared.calls.Args.{Args}
 use Rattle.cc_typing.specs.Calls.{no_args, args_rule}
 use Rattle.cc_elaboration.specs.Declarations.{built_unless, built_as, built, misplaced, misplaced_value, misplaced_args, with_value, started_cell, started_object}
-use Rattle.cc_elaboration.specs.Declarations.{cell_start, array_start, object_start, started_by, started, cells, made, declaration}
-use Rattle.cc_shared.proofs.Runs.{IsThere, Anything, Runs, given, always, bind, next, done}
+use Rattle.cc_elaboration.specs.Declarations.{cell_start, array_start, object_start, started_by, started, cells, made}
+use Rattle.cc_shared.proofs.Runs.{IsThere, given, always, bind, next, done}
 use Rattle.cc_shared.proofs.Forms.{StmtFits, make_fits, set_fits, build_fits}
 use Rattle.cc_shared.proofs.TypesOf.{value_type, target_by, target_of, IsCellType}
-use Rattle.cc_shared.proofs.Det.{Ends, MakerFits, Stands, VariableFits, Reads, having, Values}
+use Rattle.cc_shared.proofs.Det.{Ends, MakerFits, Stands, VariableFits, Reads, Values}
 use Rattle.cc_shared.proofs.StateLaws.{not_empty}
-use Rattle.cc_shared.proofs.ScopeLaws.{never, note_rule_runs}
+use Rattle.cc_shared.proofs.ScopeLaws.{never}
 use Rattle.cc_shared.proofs.CallLaws as calls
 use Rattle.cc_shared.proofs.CallLaws.{ArgsFit, no_args_fit}
 use Rattle.cc_shared.proofs.ExpressionLaws.{operand_runs, args_runs, fitting_runs}
-use Rattle.cc_shared.proofs.DeclaredLaws.{DeclaredFits, variable_runs}
-use Rattle.cc_shared.proofs.Goes.{Goes, given_g, gives_g, bind_g, next_g, done_g, frame_g, reads_g, Extends, extends_same, Good, good_more, good_wider}
+use Rattle.cc_shared.proofs.Goes.{Goes, given_g, bind_g, next_g, done_g, frame_g, Good, good_more, good_wider}
 
 pub kind_sync : (t : Ty) (sync : Bool) → is_sync (cell_kind t sync) ≡ sync
 kind_sync ty.Int true = refl

@@ -1,6 +1,6 @@
 -- What is declared has a type, where no rule is broken.
-use Rattle.std.proofs.Common.{◌≡◌, ℕ, ◌≤◌, Bool, true, false, cond, List, Option, Some, None, refl, sym, ap, subst, ◌∙◌}
-use Rattle.std.specs.Prelude.{slice_get, if◌then◌else◌, not, ◌&&◌, ◌||◌}
+use Rattle.std.proofs.Common.{◌≡◌, ℕ, Bool, true, false, List, Option, Some, None, refl, sym, subst}
+use Rattle.std.specs.Prelude.{slice_get}
 use Rattle.std.proofs.lemmas.Bool.{true≢false}
 use Rattle.cc_core.specs.Types.{FunctionTypes, Types}
 use Rattle.cc_names.specs.Names.{class_named}
@@ -21,12 +21,11 @@ use Rattle.cc_scopes.specs.declared.types.Target.TheVariants as target
 use Rattle.cc_scopes.specs.declared.types.Ty.{Ty}
 use Rattle.cc_scopes.specs.declared.types.Ty.TheVariants as ty
 use Rattle.cc_scopes.specs.Types.{int_target}
-use Rattle.cc_scopes.specs.Elab.{Elab, ◌>>=◌, ◌>>◌, pure}
 use Rattle.cc_scopes.specs.Scope.{Context}
 use Rattle.cc_declared.specs.Allowed.{is_variable, may_be, is_allowed_by, is_allowed}
 use Rattle.cc_declared.specs.Slots.{kept_by, checked, typed_as, known_length, array_of, arrayed_by, arrayed, with_length, slot, variable, field, parameter, returned}
-use Rattle.cc_declared.specs.Written.{cell, unknown, object, pointer, int_type, class_type, no_type, void_type, class_or_none, written_by, written}
-use Rattle.cc_shared.proofs.Runs.{IsThere, Anything, Runs, given, always, bind, next, done, either}
+use Rattle.cc_declared.specs.Written.{cell, unknown, object, pointer, int_type, class_type, no_type, void_type, class_or_none, written_by}
+use Rattle.cc_shared.proofs.Runs.{IsThere, given, always, bind, done, either}
 use Rattle.cc_shared.proofs.TypesOf.{target_of, IsCellType, IsResultType}
 use Rattle.cc_shared.proofs.Det.{Stands, Reads}
 use Rattle.cc_shared.proofs.ScopeLaws.{never}

@@ -1,15 +1,13 @@
 -- What is known of the tables, of the variables in scope, and of what an expression is.
-use Rattle.std.proofs.Common.{◌≡◌, ◌≢◌, ℕ, ◌+◌, ◌<◌, ◌≤◌, Bool, true, false, List, [], ◌∷◌, ◌++◌, length, map, Option, Some, None}
+use Rattle.std.proofs.Common.{◌≡◌, ◌≢◌, ℕ, ◌+◌, ◌<◌, ◌≤◌, Bool, true, false, List, [], ◌∷◌, ◌++◌, map, Option, Some}
 use Rattle.std.specs.Prelude.{slice_get, get_or, nat_lt, ℤ}
 use Rattle.cc_core.specs.declared.expression.Expression.{Expression}
-use Rattle.cc_core.specs.declared.statement.Statement.{Statement}
 use Rattle.cc_core.specs.Core.{Term, Variable}
-use Rattle.cc_core.specs.Types.{ValueType, NoValue, AnInt, AnAddress, Cells, ObjectOf, FunctionTypes, Types, function_types, IsAmong, IsOwnPlace, declares}
-use Rattle.cc_core.specs.View.{term_of, terms_of, stmt_of, stmts_of}
+use Rattle.cc_core.specs.Types.{ValueType, NoValue, AnInt, AnAddress, Cells, ObjectOf, FunctionTypes, Types, function_types, IsAmong, IsOwnPlace}
+use Rattle.cc_core.specs.View.{term_of, terms_of}
 use Rattle.cc_one_answer.specs.Sorts.{Sort, Valued, NamedCell, MemberAt, variable_sort, IsCell, member}
 use Rattle.cc_ops.specs.Values.{last_offset}
-use Rattle.cc_one_answer.specs.Determinate.{DetTerm, DetTerms, DetStmt, DetStmts, DetBranches}
-use Rattle.cc_names.specs.declared.broken.Broken.{Broken}
+use Rattle.cc_one_answer.specs.Determinate.{DetTerm, DetTerms}
 use Rattle.cc_names.specs.declared.declarations.ClassId.{ClassId}
 use Rattle.cc_scopes.specs.declared.meaning.Meaning.{Meaning}
 use Rattle.cc_scopes.specs.declared.meaning.Meaning.TheVariants as m
@@ -28,15 +26,13 @@ use Rattle.cc_scopes.specs.declared.typed.Root.TheVariants as root
 use Rattle.cc_scopes.specs.declared.typed.Typed.{Typed}
 use Rattle.cc_scopes.specs.declared.typed.Typed.TheVariants as typed
 use Rattle.cc_scopes.specs.declared.types.Declared.{Declared}
-use Rattle.cc_scopes.specs.declared.types.Target as pointed
-use Rattle.cc_scopes.specs.declared.types.Target.TheVariants as target
 use Rattle.cc_scopes.specs.declared.types.Ty.{Ty}
 use Rattle.cc_scopes.specs.declared.types.Ty.TheVariants as ty
 use Rattle.cc_scopes.specs.Elab.{Elab}
 use Rattle.cc_scopes.specs.Meaning.{constant_value}
 use Rattle.cc_scopes.specs.Scope.{Context}
 use Rattle.cc_operators.specs.Operators.{leads_to_sync_alone}
-use Rattle.cc_shared.proofs.TypesOf.{target_type, value_type, target_of, IsCellType, IsResultType, AllCellTypes, FieldFits, MemberFits}
+use Rattle.cc_shared.proofs.TypesOf.{target_type, value_type, IsCellType, IsResultType, AllCellTypes, FieldFits, MemberFits}
 use Rattle.cc_shared.proofs.Runs.{IsThere, Anything, Runs}
 
 -- ---- the tables

@@ -1,17 +1,16 @@
 -- Expressions, and what statements and declarations read of them.
-use Rattle.std.proofs.Common.{◌≡◌, ℕ, zero, suc, ◌≤◌, ℤ, Bool, true, false, cond, List, [], ◌∷◌, Option, Some, None, refl, ◌⊎◌, inl, inr}
+use Rattle.std.proofs.Common.{◌≡◌, ℕ, zero, suc, Bool, true, false, List, Option, Some, None, refl, ◌⊎◌, inl, inr}
 use Rattle.std.specs.Prelude.{slice_get, if◌then◌else◌}
 use Rattle.cc_core.specs.declared.expression.Constant.TheVariants as constant
 use Rattle.cc_core.specs.declared.expression.Expression.{Expression}
-use Rattle.cc_core.specs.Types.{ValueType, AnInt, FunctionTypes, Types}
+use Rattle.cc_core.specs.Types.{FunctionTypes, Types}
 use Rattle.cc_scopes.specs.declared.state.Local.{Local}
 use Rattle.cc_scopes.specs.declared.types.Declared.{Declared}
 use Rattle.cc_names.specs.declared.rule.StaticRule.{StaticRule}
 use Rattle.cc_names.specs.declared.rule.StaticRule.TheVariants as r
 use Rattle.cc_tree.specs.declared.expressions.Expr.{Expr, out-Expr}
-use Rattle.cc_tree.specs.declared.expressions.ExprKind.{ExprKind, out-ExprKind}
+use Rattle.cc_tree.specs.declared.expressions.ExprKind.{out-ExprKind}
 use Rattle.cc_tree.specs.declared.expressions.ExprKind.TheOpen.{ExprKind-F}
-use Rattle.cc_typing.specs.declared.calls.Args.{Args}
 use Rattle.cc_scopes.specs.declared.sharing.ShareRule.{ShareRule}
 use Rattle.cc_scopes.specs.declared.typed.Root.{Root}
 use Rattle.cc_scopes.specs.declared.typed.Operand.{Operand}
@@ -19,16 +18,16 @@ use Rattle.cc_scopes.specs.declared.typed.Place.{Place}
 use Rattle.cc_scopes.specs.declared.typed.Typed.{Typed}
 use Rattle.cc_scopes.specs.declared.typed.Typed.TheVariants as typed
 use Rattle.cc_scopes.specs.declared.types.Ty.{Ty}
-use Rattle.cc_scopes.specs.Elab.{Elab, ◌>>=◌, ◌>>◌, pure}
+use Rattle.cc_scopes.specs.Elab.{Elab, ◌>>◌, pure}
 use Rattle.cc_scopes.specs.Scope.{Context}
 use Rattle.cc_scopes.specs.Types.{accepts}
 use Rattle.cc_scopes.specs.Typed.{literal, note_rule, is_far_local}
 use Rattle.cc_typing.specs.Expr.{null, Layer, kind, node, expr_to, expr}
 use Rattle.cc_typing.specs.Whole.{operand, args, array_length, constant, fitted, fitting, no_place, place_unless, as_place, place, written_rule, share_some, share_write, written}
-use Rattle.cc_shared.proofs.Runs.{IsThere, Anything, Runs, given, always, gives, bind, next, after, keeping, done}
+use Rattle.cc_shared.proofs.Runs.{IsThere, Anything, given, always, gives, bind, keeping, done}
 use Rattle.cc_shared.proofs.Forms.{push_values}
 use Rattle.cc_shared.proofs.TypesOf.{value_type, target_of, IsCellType}
-use Rattle.cc_shared.proofs.Det.{Stands, Reads, Values, argument_by, OperandBy, OperandFits, PlaceFits, TypedFits}
+use Rattle.cc_shared.proofs.Det.{Stands, Reads, Values, argument_by, OperandFits, PlaceFits, TypedFits}
 use Rattle.cc_shared.proofs.StateLaws.{share_runs, block_if_runs}
 use Rattle.cc_shared.proofs.LengthLaws.{IsLength, length_of_runs, constant_of_runs}
 use Rattle.cc_shared.proofs.ScopeLaws.{never, literal_fits, this_runs, name_runs}

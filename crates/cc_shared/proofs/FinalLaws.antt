@@ -1,18 +1,16 @@
 -- The program that the front end leaves is determinate, where its constructors put what their classes' types say.
-use Rattle.std.proofs.Common.{◌≡◌, ◌≢◌, ℕ, zero, suc, ◌+◌, Bool, true, false, List, [], ◌∷◌, ◌++◌, length, map, Option, Some, None, refl, sym, ap, subst, ◌∙◌, zero-add, arith}
+use Rattle.std.proofs.Common.{◌≡◌, ◌≢◌, ℕ, zero, suc, Bool, true, false, List, [], ◌∷◌, length, map, Some, None, refl, sym, ap, subst, ◌∙◌, zero-add, arith}
 use Rattle.std.specs.Prelude.{slice_get, get_or}
 use Rattle.std.proofs.lemmas.Option.{none-some}
-use Rattle.cc_core.specs.Core.{Program, function, shapes, class_shape, no_function, no_class}
+use Rattle.cc_core.specs.Core.{function, shapes, class_shape, no_function, no_class}
 use Rattle.cc_core.specs.Effects.{numbers}
-use Rattle.cc_core.specs.Types.{Target, FunctionTypes, Types, no_types, function_types}
+use Rattle.cc_core.specs.Types.{Types, function_types}
 use Rattle.cc_core.specs.View.{function_of, program_of}
 use Rattle.cc_core.specs.declared.program.Function.{Function as CoreFunction}
 use Rattle.cc_one_answer.specs.Determinate.{DetStmts, AreParameters, AreRuns, AreSets, IsDeterminate}
 use Rattle.cc_ops.specs.Shapes.{shape_of}
-use Rattle.cc_ops.specs.declared.shape.ClassShape.{ClassShape}
 use Rattle.cc_functions.specs.Items.{nothing_done, items}
 use Rattle.cc_names.specs.Names.{names_of}
-use Rattle.cc_scopes.specs.declared.tables.Class.{Class}
 use Rattle.cc_scopes.specs.declared.tables.Signature.{Signature}
 use Rattle.cc_scopes.specs.Elab.{nothing_yet}
 use Rattle.cc_tables.specs.Tables.{constants_of, classes_from, functions_of, tables_of}

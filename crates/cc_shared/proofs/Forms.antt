@@ -1,25 +1,24 @@
 -- When each form of an expression has a sort, and each form of a statement is determinate.
-use Rattle.std.proofs.Common.{◌≡◌, ◌≢◌, ℕ, ◌<◌, ◌≤◌, ◌+◌, Bool, true, false, List, [], ◌∷◌, ◌++◌, map, Option, Some, None, refl, sym, ap, subst, ◌∙◌, inl, inr}
+use Rattle.std.proofs.Common.{◌≡◌, ◌≢◌, ℕ, ◌≤◌, Bool, true, false, List, [], ◌∷◌, ◌++◌, Some, refl, sym, subst}
 use Rattle.std.specs.Prelude.{slice_get, get_or}
 use Rattle.cc_ops.specs.Values.{last_offset}
 use Rattle.cc_ops.specs.declared.kind.Kind.{Kind}
 use Rattle.cc_ops.specs.declared.operator.Op.{Op}
 use Rattle.cc_core.specs.declared.expression.Constant.{Constant}
 use Rattle.cc_core.specs.declared.expression.How.{How}
-use Rattle.cc_core.specs.declared.expression.How.TheVariants as how
 use Rattle.cc_core.specs.declared.expression.PrintPart.{PrintPart}
 use Rattle.cc_core.specs.declared.expression.Expression.{Expression}
 use Rattle.cc_core.specs.declared.expression.Expression.TheVariants as e
 use Rattle.cc_core.specs.declared.statement.Statement.{Statement}
 use Rattle.cc_core.specs.declared.statement.Statement.TheVariants as s
 use Rattle.cc_core.specs.Core.{Term, Stmt}
-use Rattle.cc_core.specs.Types.{ValueType, AnInt, AnAddress, Target, Cells, ObjectOf, FunctionTypes, Types, function_types, declares}
-use Rattle.cc_core.specs.View.{term_of, terms_of, how_of, stmt_of, stmts_of}
+use Rattle.cc_core.specs.Types.{ValueType, AnAddress, Target, Cells, ObjectOf, FunctionTypes, Types, function_types, declares}
+use Rattle.cc_core.specs.View.{term_of, how_of, stmt_of, stmts_of}
 use Rattle.cc_core.proofs.ViewLaws.{push_is, this_is, variable_is, member_is, index_is, at_is, load_is, unary_is, binary_is, and_is, or_is, new_is}
 use Rattle.cc_core.proofs.ViewLaws.{new_object_is, call_is, empty_is, at_line_is, make_is, set_is, build_is, assign_is, drop_is, print_is, if_is, if_else_is}
 use Rattle.cc_core.proofs.ViewLaws.{while_is, for_is, par_is, parfor_is, spawn_is, return_is, block_is}
-use Rattle.cc_one_answer.specs.Sorts.{Sort, Valued, NamedCell, MemberAt, variable_sort, is_sync, IsCell, IsElement}
-use Rattle.cc_one_answer.specs.Determinate.{IsTaken, DetTerm, DetTerms, MayWrite, DetStmt, DetStmts, DetBranches}
+use Rattle.cc_one_answer.specs.Sorts.{Sort, Valued, MemberAt, variable_sort, is_sync, IsCell, IsElement}
+use Rattle.cc_one_answer.specs.Determinate.{IsTaken, DetTerm, MayWrite, DetStmt, DetStmts, DetBranches}
 use Rattle.cc_shared.proofs.Det.{Sorted, Values, AllValues, Leads}
 
 module _ (y : Types) (main : ℕ) (here : FunctionTypes) where

@@ -1,24 +1,20 @@
 -- Functions: what the front end leaves of one is determinate.
-use Rattle.std.proofs.Common.{◌≡◌, ◌≢◌, ℕ, zero, suc, ◌+◌, ◌<◌, ◌≤◌, Bool, true, false, not, List, [], ◌∷◌, ◌++◌, length, map, Option, Some, None, refl, sym, ap, subst, ◌∙◌, arith, append-nil, ◌⊎◌, inl, inr, ⊎_elim}
+use Rattle.std.proofs.Common.{◌≡◌, ℕ, zero, suc, ◌+◌, ◌<◌, ◌≤◌, Bool, true, false, not, List, [], ◌∷◌, ◌++◌, length, map, Option, Some, None, refl, sym, ap, subst, ◌∙◌, arith, append-nil, ◌⊎◌, inl, inr, ⊎_elim}
 use Rattle.std.specs.Prelude.{slice_get, ◌&&◌}
 use Rattle.std.proofs.lemmas.Bool.{true≢false}
 use Rattle.std.proofs.lemmas.Option.{none-some}
 use Rattle.cc_core.specs.declared.statement.Statement.{Statement}
-use Rattle.cc_core.specs.Core.{Stmts}
 use Rattle.cc_core.specs.Effects.{numbers}
-use Rattle.cc_core.specs.Types.{ValueType, Cells, Target, FunctionTypes, Types, IsAmong, no_types}
+use Rattle.cc_core.specs.Types.{Cells, Target, FunctionTypes, Types, IsAmong, no_types}
 use Rattle.cc_core.specs.View.{stmts_of}
-use Rattle.cc_ops.specs.declared.kind.Kind.{Kind}
 use Rattle.cc_one_answer.specs.Determinate.{DetStmts, AreParameters}
 use Rattle.cc_one_answer.specs.Sorts.{is_sync}
 use Rattle.cc_core.specs.declared.program.Function.{Function as CoreFunction}
-use Rattle.cc_names.specs.Table.{Name}
 use Rattle.cc_names.specs.declared.rule.StaticRule.TheVariants as r
 use Rattle.cc_declared.specs.declared.role.Role.TheVariants as role
 use Rattle.cc_declared.specs.Slots.{returned, value_type_by, value_type as declared_type}
-use Rattle.cc_elaboration.specs.Simple.{prints_alone, note_if}
-use Rattle.cc_elaboration.specs.Statements.{at_line, function_body}
-use Rattle.cc_functions.specs.Functions.{begin, is_plain_int, params_from, result_of, in_function, parts, kinds_of, share_atomic, function_at, function}
+use Rattle.cc_elaboration.specs.Statements.{function_body}
+use Rattle.cc_functions.specs.Functions.{is_plain_int, params_from, result_of, in_function, kinds_of, share_atomic}
 use Rattle.cc_scopes.specs.declared.state.Local.{Local}
 use Rattle.cc_scopes.specs.declared.state.State.{State}
 use Rattle.cc_scopes.specs.declared.types.Declared.{Declared}
@@ -30,14 +26,14 @@ use Rattle.cc_scopes.specs.Types.{cell_kind}
 use Rattle.cc_tree.specs.declared.declarations.Function.{Function}
 use Rattle.cc_tree.specs.declared.statements.TypeName.{TypeName}
 use Rattle.cc_shared.proofs.TypesOf.{value_type, target_by, target_of, IsCellType, IsResultType}
-use Rattle.cc_shared.proofs.Det.{Ends, Stands, VariableFits, LocalsFit}
+use Rattle.cc_shared.proofs.Det.{Ends, Stands, LocalsFit}
 use Rattle.cc_shared.proofs.Forms.{StmtsFit}
 use Rattle.cc_shared.proofs.StateLaws.{not_empty}
 use Rattle.cc_shared.proofs.DeclaredLaws.{DeclaredFits, ShapeFits}
 use Rattle.cc_shared.proofs.DeclarationLaws.{kind_sync}
-use Rattle.cc_shared.proofs.Goes.{PartsFrom, Good, Goes}
+use Rattle.cc_shared.proofs.Goes.{PartsFrom, Good}
 use Rattle.cc_shared.proofs.Proper.{EachOf, AlwaysProper}
-use Rattle.cc_shared.proofs.StatementLaws.{Inside, function_body_g}
+use Rattle.cc_shared.proofs.StatementLaws.{function_body_g}
 use Rattle.cc_shared.proofs.CleanLaws.{Clean, typed_kept, typed_fits, note_kept, AllParameters, AreNumbered, ParamsDone, params_done, params_fit}
 
 -- ---- lists

@@ -1,16 +1,10 @@
 -- Readings that change the variables in scope.
-use Rattle.std.proofs.Common.{◌≡◌, ◌≢◌, ℕ, zero, suc, ◌+◌, ◌<◌, ◌≤◌, List, [], ◌∷◌, ◌++◌, length, take, Option, Some, None, refl, sym, ap, ◌∙◌, subst, arith, append-nil, inl, inr}
-use Rattle.cc_core.specs.Types.{IsAmong}
-use Rattle.cc_names.specs.Table.{Name}
-use Rattle.cc_names.specs.declared.broken.Broken.TheVariants.{Rule}
+use Rattle.std.proofs.Common.{◌≡◌, ℕ, suc, ◌+◌, ◌≤◌, List, [], ◌∷◌, ◌++◌, length, take, refl, sym, ap, ◌∙◌, subst, arith, append-nil, inr}
 use Rattle.cc_scopes.specs.declared.state.Local.{Local}
 use Rattle.cc_scopes.specs.declared.state.State.{State}
 use Rattle.cc_scopes.specs.declared.types.Declared.{Declared}
 use Rattle.cc_scopes.specs.Elab.{Elab, ◌>>=◌, ◌>>◌, pure, block, leave}
-use Rattle.cc_scopes.specs.Scope.{Context}
-use Rattle.cc_shared.proofs.Runs.{Anything, Runs}
-use Rattle.cc_shared.proofs.TypesOf.{IsCellType}
-use Rattle.cc_shared.proofs.Det.{Ends, VariableFits, LocalsFit, Keeps, Reads}
+use Rattle.cc_shared.proofs.Det.{Ends, VariableFits, LocalsFit, Reads}
 
 -- P is known of the variables in scope before, and Q of what is given and those behind
 pub record Goes (ds : List Declared) {A : Type 0} (P : List Local → Type 0) (p : Elab A) (Q : A → List Local → Type 0) : Type 0 where

@@ -1,11 +1,10 @@
 -- The trees that tokens spell are proper.
-use Rattle.std.proofs.Common.{◌≡◌, ℕ, zero, suc, ◌∙◌, sym, ap, subst, List, [], ◌∷◌, ◌++◌, Option, Some, None, ◌⊎◌, inl, inr, refl}
+use Rattle.std.proofs.Common.{◌≡◌, ℕ, zero, suc, ◌∙◌, sym, ap, subst, List, [], ◌∷◌, ◌++◌, Option, Some, None, ◌⊎◌, inl, inr}
 use Rattle.std.specs.Prelude.{pred}
 use Rattle.cc_grammar.specs.Lexeme.{Lexemes}
-use Rattle.cc_grammar.specs.Symbol.{Symbol, pure, ◌>>=◌, ◌>>◌, ◌or◌, Repeats, many, before_no, never, opt}
+use Rattle.cc_grammar.specs.Symbol.{Symbol, Repeats, never}
 use Rattle.cc_grammar.specs.Nodes.{stated, assigned, called, declared, joined, one, line_of, decl_of}
 use Rattle.cc_grammar.specs.Declarations.{var, decl}
-use Rattle.cc_grammar.specs.Expressions.{expr, place, call}
 use Rattle.cc_grammar.specs.Statements.{simple as simple_rule, beginning as beginning_rule, maybe_beginning as maybe_beginning_rule, header as header_rule, counter as counter_rule, entry as entry_rule, entries as entries_rule, block as block_rule, block_stmt as block_stmt_rule, otherwise as otherwise_rule, choice as choice_rule, loop as loop_rule}
 use Rattle.cc_grammar.specs.Statements.{for_loop as for_loop_rule, parallel as parallel_rule, parallel_for as parallel_for_rule, empty as empty_rule, plain as plain_rule, print as print_rule, spawned as spawned_rule, returned as returned_rule, stmt_line as stmt_line_rule, stmt as stmt_rule, inner_stmt as inner_stmt_rule, block_at as block_at_rule}
 use Rattle.cc_grammar.specs.Items.{function as function_of_items, label as label_of_items, build as build_of_items, atomic_method as atomic_method_of_items, method as method_of_items, fields as fields_of_items, member as member_of_items, member_list as member_list_of_items, members as members_of_items, constant as constant_of_items, class as class_of_items, item as item_of_items}
@@ -18,12 +17,12 @@ use Rattle.cc_tree.specs.declared.declarations.Item.TheVariants as item
 use Rattle.cc_tree.specs.declared.declarations.Member.{Member}
 use Rattle.cc_tree.specs.declared.declarations.Member.TheVariants as member
 use Rattle.cc_tree.specs.declared.declarations.Program.{Program}
-use Rattle.cc_tree.specs.declared.statements.Stmt.{Stmt, out-Stmt, roll-Stmt, out-roll-Stmt}
+use Rattle.cc_tree.specs.declared.statements.Stmt.{Stmt, out-roll-Stmt}
 use Rattle.cc_tree.specs.declared.statements.StmtKind.{StmtKind, out-StmtKind, roll-StmtKind, out-roll-StmtKind}
 use Rattle.cc_tree.specs.declared.statements.StmtKind.TheOpen.{StmtKind-F}
 use Rattle.cc_tree.specs.declared.statements.StmtKind.TheVariants as k
 use Rattle.cc_tree.specs.declared.statements.StmtKind.TheVariants.{rolls-Block, rolls-Empty, rolls-Declare, rolls-Assign, rolls-Call, rolls-Print, rolls-If, rolls-While, rolls-For, rolls-Par, rolls-ParFor, rolls-Spawn, rolls-Return}
-use Rattle.cc_shared.proofs.Proper.{Layer, layer, DeclaresNone, IsPlain, EachOf, IfSome, Sub, ProperParts, IsProper, AlwaysProper}
+use Rattle.cc_shared.proofs.Proper.{Layer, layer, DeclaresNone, EachOf, IfSome, Sub, ProperParts, IsProper, AlwaysProper}
 
 -- ---- what a symbol spells
 

@@ -1,5 +1,5 @@
 -- The header of a parfor assigns its own variable.
-use Rattle.std.proofs.Common.{◌≡◌, ℕ, Bool, true, false, cond, ◌∙◌, sym, ap, subst, List, [], ◌∷◌, ◌++◌, Option, Some, None, refl}
+use Rattle.std.proofs.Common.{◌≡◌, ℕ, true, false, cond, ◌∙◌, sym, ap, subst, List, [], ◌∷◌, ◌++◌, Option, Some, None, refl}
 use Rattle.std.specs.Prelude.{slice_get, bytes_eq}
 use Rattle.std.proofs.lemmas.Bool.{true≢false}
 use Rattle.std.proofs.lemmas.Slice.Eq.{bytes_eq-Decides}
@@ -10,7 +10,6 @@ use Rattle.cc_tree.specs.declared.expressions.Expr.{Expr, out-Expr}
 use Rattle.cc_tree.specs.declared.expressions.ExprKind.{out-ExprKind}
 use Rattle.cc_tree.specs.declared.expressions.ExprKind.TheOpen.{ExprKind-F}
 use Rattle.cc_tree.specs.declared.statements.AssignOp.{AssignOp}
-use Rattle.cc_scopes.specs.declared.meaning.Meaning.{Meaning}
 use Rattle.cc_scopes.specs.declared.meaning.Meaning.TheVariants as m
 use Rattle.cc_scopes.specs.declared.scope.Found.{Found}
 use Rattle.cc_scopes.specs.declared.state.Local.{Local}
@@ -19,15 +18,15 @@ use Rattle.cc_scopes.specs.declared.typed.Place.{Place}
 use Rattle.cc_scopes.specs.declared.typed.Root.TheVariants as root
 use Rattle.cc_scopes.specs.declared.types.Declared.{Declared}
 use Rattle.cc_scopes.specs.declared.types.Ty.TheVariants as ty
-use Rattle.cc_scopes.specs.Elab.{Elab, ◌>>=◌, ◌>>◌, pure}
-use Rattle.cc_scopes.specs.Meaning.{variable_or, meant, of_meaning, name}
+use Rattle.cc_scopes.specs.Elab.{◌>>=◌}
+use Rattle.cc_scopes.specs.Meaning.{variable_or, meant, of_meaning}
 use Rattle.cc_scopes.specs.Scope.{Context, found_as, later, variable_from, variable}
 use Rattle.cc_scopes.specs.Typed.{place_of}
-use Rattle.cc_typing.specs.Expr.{Layer, kind, node, expr_to, expr}
+use Rattle.cc_typing.specs.Expr.{Layer, kind, node, expr_to}
 use Rattle.cc_typing.specs.Whole.{as_place, place}
 use Rattle.cc_elaboration.specs.Assignments.{assignment}
 use Rattle.cc_elaboration.specs.Statements.{plain_int, names_by, names}
-use Rattle.cc_shared.proofs.Runs.{IsThere, Anything, Runs, given, bind}
+use Rattle.cc_shared.proofs.Runs.{IsThere, given, bind}
 use Rattle.cc_shared.proofs.TypesOf.{target_of}
 use Rattle.cc_shared.proofs.Det.{Stands, Reads, Values, PlaceFits}
 use Rattle.cc_shared.proofs.ExpressionLaws.{place_runs}

@@ -1,12 +1,11 @@
 -- The functions of a program, in the order of its items: each is determinate with the types that the tables give it.
-use Rattle.std.proofs.Common.{◌≡◌, ℕ, zero, suc, ◌+◌, Bool, true, false, List, [], ◌∷◌, ◌++◌, length, map, Option, Some, None, refl, sym, ap, subst, ◌∙◌, append-nil, arith, ◌≤◌}
+use Rattle.std.proofs.Common.{◌≡◌, ℕ, suc, ◌+◌, Bool, true, false, List, [], ◌∷◌, ◌++◌, length, map, Option, Some, None, refl, sym, ap, subst, ◌∙◌, append-nil, arith, ◌≤◌}
 use Rattle.std.proofs.lemmas.Option.{none-some}
 use Rattle.std.specs.Prelude.{slice_get, nat_lt, ℤ, bytes_eq, codes}
 use Rattle.cc_core.specs.Effects.{numbers}
-use Rattle.cc_core.specs.Types.{ValueType, Target, FunctionTypes, Types}
+use Rattle.cc_core.specs.Types.{Target, FunctionTypes, Types}
 use Rattle.cc_core.specs.View.{stmts_of}
 use Rattle.cc_core.specs.declared.program.Function.{Function as CoreFunction}
-use Rattle.cc_core.specs.declared.statement.Statement.{Statement}
 use Rattle.cc_one_answer.specs.Determinate.{DetStmts}
 use Rattle.cc_names.specs.Names.{NameTables}
 use Rattle.cc_names.specs.Table.{Name}
@@ -16,8 +15,8 @@ use Rattle.cc_declared.specs.Slots.{value_type as declared_type}
 use Rattle.cc_elaboration.specs.Statements.{at_line}
 use Rattle.cc_functions.specs.declared.done.Done.{Done}
 use Rattle.cc_functions.specs.Functions.{begin, kinds_of, share_atomic, parts, function_at, function}
-use Rattle.cc_functions.specs.Items.{with_function, no_members, member_name, field_member, function_member, member_by, members_from, class_item}
-use Rattle.cc_functions.specs.Items.{is_main, constant_item, function_item, class_id, after_constant, after_class, after_function, items_from}
+use Rattle.cc_functions.specs.Items.{no_members, member_name, field_member, function_member, member_by, members_from, class_item}
+use Rattle.cc_functions.specs.Items.{is_main, function_item, class_id, after_constant, after_class, after_function, items_from}
 use Rattle.cc_scopes.specs.declared.state.State.{State}
 use Rattle.cc_scopes.specs.declared.tables.Signature.{Signature}
 use Rattle.cc_scopes.specs.declared.tables.Tables.{Tables}
@@ -37,8 +36,8 @@ use Rattle.cc_shared.proofs.TypesOf.{value_type, target_of}
 use Rattle.cc_shared.proofs.Det.{Matches, Stands}
 use Rattle.cc_shared.proofs.Proper.{EachOf}
 use Rattle.cc_shared.proofs.GrammarLaws.{ProperFunction, ProperMember, ProperItem}
-use Rattle.cc_shared.proofs.CleanLaws.{Clean, ParamsDone, params_done}
-use Rattle.cc_shared.proofs.FunctionLaws.{FunctionFits, types_in, atomic_kept, result_fits, after_result, inner, after_params, after_body, body_ends, body_fits, parameters_fit}
+use Rattle.cc_shared.proofs.CleanLaws.{Clean, params_done}
+use Rattle.cc_shared.proofs.FunctionLaws.{FunctionFits, types_in, result_fits, after_result, inner, after_params, after_body, body_ends, body_fits, parameters_fit}
 use Rattle.cc_shared.proofs.KnownLaws.{params_same, result_same}
 use Rattle.cc_shared.proofs.QuietLaws.{Quiet, function_quiet, members_quiet, items_quiet}
 use Rattle.cc_shared.proofs.TypeTables.{types_by, method_types, typed_functions, with_vars}

@@ -1,27 +1,22 @@
 -- What the tables of a program hold whose items are read without a broken rule: the types of its functions.
-use Rattle.std.proofs.Common.{◌≡◌, ℕ, zero, suc, ◌+◌, ◌<◌, ◌≤◌, Bool, true, false, not, List, [], ◌∷◌, ◌++◌, length, map, Option, Some, None, refl, sym, ap, subst, ◌∙◌, arith, append-nil}
+use Rattle.std.proofs.Common.{◌≡◌, ℕ, zero, suc, Bool, false, not, List, [], ◌∷◌, ◌++◌, map, Some, None, refl, sym, ap, subst, ◌∙◌, append-nil}
 use Rattle.std.specs.Prelude.{slice_get, ◌&&◌, bytes_eq, codes}
 use Rattle.std.proofs.lemmas.Option.{none-some}
-use Rattle.std.proofs.lemmas.Bool.{true≢false}
-use Rattle.cc_core.specs.Types.{ValueType, FunctionTypes, Types}
 use Rattle.cc_names.specs.Names.{NameTables}
-use Rattle.cc_names.specs.Table.{Name}
 use Rattle.cc_names.specs.declared.rule.StaticRule.TheVariants as r
 use Rattle.cc_ops.specs.declared.shape.ClassShape.{ClassShape}
 use Rattle.cc_declared.specs.declared.role.Role.TheVariants as role
-use Rattle.cc_declared.specs.Slots.{typed_as, returned, parameter, value_type_by, value_type as declared_type}
+use Rattle.cc_declared.specs.Slots.{returned, parameter, value_type as declared_type}
 use Rattle.cc_elaboration.specs.Simple.{note_if}
 use Rattle.cc_elaboration.specs.Statements.{at_line}
 use Rattle.cc_functions.specs.declared.done.Done.{Done}
-use Rattle.cc_functions.specs.Functions.{begin, is_plain_int, param_at, param, params_from, result_of, in_function, share_atomic, parts, function_at, function}
-use Rattle.cc_functions.specs.Items.{with_function, no_members, member_name, field_member, function_member, member_by, members_from, class_item}
-use Rattle.cc_functions.specs.Items.{is_main, constant_item, function_item, class_id, after_constant, after_class, after_function, items_from}
+use Rattle.cc_functions.specs.Functions.{begin, is_plain_int, param_at, param, params_from, result_of, share_atomic, parts, function_at}
+use Rattle.cc_functions.specs.Items.{no_members, field_member, function_member, member_by, members_from, class_item}
+use Rattle.cc_functions.specs.Items.{is_main, function_item, class_id, after_constant, after_class, after_function, items_from}
 use Rattle.cc_scopes.specs.declared.state.State.{State}
 use Rattle.cc_scopes.specs.declared.tables.Signature.{Signature}
 use Rattle.cc_scopes.specs.declared.tables.Tables.{Tables}
 use Rattle.cc_scopes.specs.declared.types.Declared.{Declared}
-use Rattle.cc_scopes.specs.declared.types.Shape.{Shape}
-use Rattle.cc_scopes.specs.declared.types.Shape.TheVariants as shape
 use Rattle.cc_scopes.specs.Elab.{nothing_yet}
 use Rattle.cc_scopes.specs.Scope.{Context}
 use Rattle.cc_tables.specs.Tables.{outside, param_type, param_types, signature, methods, functions_of}
@@ -33,14 +28,13 @@ use Rattle.cc_tree.specs.declared.declarations.Item.TheVariants as item
 use Rattle.cc_tree.specs.declared.declarations.Member.{Member}
 use Rattle.cc_tree.specs.declared.declarations.Member.TheVariants as member
 use Rattle.cc_tree.specs.declared.declarations.Param.{Param}
-use Rattle.cc_shared.proofs.TypesOf.{value_type, target_of, IsCellType, IsResultType, AllCellTypes}
-use Rattle.cc_shared.proofs.DeclaredLaws.{DeclaredFits}
-use Rattle.cc_shared.proofs.Proper.{EachOf, AlwaysProper}
+use Rattle.cc_shared.proofs.TypesOf.{IsCellType, IsResultType, AllCellTypes}
+use Rattle.cc_shared.proofs.Proper.{EachOf}
 use Rattle.cc_shared.proofs.GrammarLaws.{ProperFunction, ProperMember, ProperItem}
-use Rattle.cc_shared.proofs.CleanLaws.{Clean, typed_kept, note_kept, AllParameters, ParamsDone, param_is, type_clean, params_done, params_fit}
-use Rattle.cc_shared.proofs.FunctionLaws.{parameter_value, result_kept, result_fits, after_result, inner, after_params, after_body, body_ends}
+use Rattle.cc_shared.proofs.CleanLaws.{Clean, note_kept, AllParameters, type_clean, params_done, params_fit}
+use Rattle.cc_shared.proofs.FunctionLaws.{parameter_value, result_fits, after_result, inner, after_body, body_ends}
 use Rattle.cc_shared.proofs.SameLaws.{typed_same}
-use Rattle.cc_shared.proofs.QuietLaws.{Quiet, function_quiet, member_quiet, members_quiet, items_quiet}
+use Rattle.cc_shared.proofs.QuietLaws.{Quiet, members_quiet, items_quiet}
 
 -- ---- lists
 

@@ -1,19 +1,19 @@
 -- Lengths, and the values of constants.
-use Rattle.std.proofs.Common.{◌≡◌, ℕ, zero, suc, ◌<◌, ◌≤◌, ℤ, pos, negsuc, Bool, true, false, cond, List, Option, Some, None, refl, arith}
+use Rattle.std.proofs.Common.{◌≡◌, ℕ, zero, suc, ◌≤◌, ℤ, pos, negsuc, Bool, true, false, List, Option, Some, None, refl, arith}
 use Rattle.std.specs.Prelude.{◌||◌, int_lt, if◌then◌else◌}
 use Rattle.std.proofs.lemmas.Bool.{true≢false, ltb-false}
 use Rattle.cc_core.specs.Types.{FunctionTypes, Types}
 use Rattle.cc_names.specs.declared.broken.Broken.{Broken}
-use Rattle.cc_names.specs.declared.broken.Broken.TheVariants.{Rule, Limit}
+use Rattle.cc_names.specs.declared.broken.Broken.TheVariants.{Limit}
 use Rattle.cc_names.specs.declared.rule.StaticLimit.TheVariants.{ArrayLength}
 use Rattle.cc_scopes.specs.declared.state.Local.{Local}
 use Rattle.cc_scopes.specs.declared.typed.Typed.{Typed}
 use Rattle.cc_scopes.specs.declared.typed.Typed.TheVariants as typed
 use Rattle.cc_scopes.specs.declared.types.Declared.{Declared}
-use Rattle.cc_scopes.specs.Elab.{Elab, ◌>>=◌, ◌>>◌, pure, note}
+use Rattle.cc_scopes.specs.Elab.{◌>>◌, pure, note}
 use Rattle.cc_scopes.specs.Scope.{Context}
 use Rattle.cc_scopes.specs.Lengths.{no_length, natural, length_in_range, value_length, length_of, no_value, value_or_fault, constant_of}
-use Rattle.cc_shared.proofs.Runs.{IsThere, Anything, Runs, given, always, bind, next, after, done}
+use Rattle.cc_shared.proofs.Runs.{IsThere, Anything, after, done}
 use Rattle.cc_shared.proofs.Det.{Reads, TypedFits}
 use Rattle.cc_shared.proofs.StateLaws.{note_runs}
 

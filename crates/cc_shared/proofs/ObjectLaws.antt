@@ -1,14 +1,13 @@
 -- Elements, members, calls on objects, and new objects.
-use Rattle.std.proofs.Common.{◌≡◌, ◌≢◌, ℕ, ◌+◌, subst, ap, ◌<◌, ◌≤◌, ◌∙◌, sym, Bool, true, false, cond, List, length, Option, Some, None, refl, arith}
+use Rattle.std.proofs.Common.{◌≡◌, ℕ, subst, ap, sym, Bool, true, false, cond, List, Option, Some, None, refl}
 use Rattle.std.specs.Prelude.{slice_get}
 use Rattle.cc_core.specs.declared.expression.Expression.{Expression}
 use Rattle.cc_core.specs.declared.expression.Expression.TheVariants as e
-use Rattle.cc_core.specs.Types.{ValueType, AnInt, AnAddress, Cells, ObjectOf, FunctionTypes, Types, function_types, IsAmong, IsOwnPlace}
-use Rattle.cc_core.specs.Core.{Term, Variable, Member, Index}
+use Rattle.cc_core.specs.Types.{ValueType, AnInt, AnAddress, Cells, ObjectOf, FunctionTypes, Types, function_types, IsOwnPlace}
+use Rattle.cc_core.specs.Core.{Term, Variable, Index}
 use Rattle.cc_core.specs.View.{term_of}
-use Rattle.cc_core.proofs.ViewLaws.{index_is, new_object_is, new_is}
-use Rattle.cc_one_answer.specs.Sorts.{Sort, Valued, NamedCell, MemberAt, MemberCell, variable_sort, is_sync, IsCell, IsElement}
-use Rattle.cc_ops.specs.Values.{last_offset}
+use Rattle.cc_core.proofs.ViewLaws.{index_is}
+use Rattle.cc_one_answer.specs.Sorts.{Valued, NamedCell, MemberAt, MemberCell, variable_sort, IsCell, IsElement}
 use Rattle.std.proofs.lemmas.Bool.{true≢false}
 use Rattle.cc_scopes.specs.declared.state.Local.{Local}
 use Rattle.cc_scopes.specs.declared.types.Declared.{Declared}
@@ -32,19 +31,19 @@ use Rattle.cc_scopes.specs.declared.types.Target.{Target}
 use Rattle.cc_scopes.specs.declared.types.Target.TheVariants as target
 use Rattle.cc_scopes.specs.declared.types.Ty.{Ty}
 use Rattle.cc_scopes.specs.declared.types.Ty.TheVariants as ty
-use Rattle.cc_scopes.specs.Elab.{Elab, ◌>>=◌, ◌>>◌, pure}
+use Rattle.cc_scopes.specs.Elab.{Elab}
 use Rattle.cc_scopes.specs.Scope.{Context}
-use Rattle.cc_scopes.specs.Types.{is_int, int_kind, int_target}
+use Rattle.cc_scopes.specs.Types.{is_int, int_kind}
 use Rattle.cc_scopes.specs.Meaning.{class_at, member_of, meant_in}
 use Rattle.cc_typing.specs.Calls.{args_rule}
 use Rattle.cc_typing.specs.Objects.{element, indexed_array, element_behind, indexed_target, indexed_pointer, indexed_value, no_object, object_behind, before_dot}
 use Rattle.cc_typing.specs.Objects.{target_object, pointed_by, pointed_object, value_before_arrow, before_arrow, object_of, field_at, field_as, field_of}
 use Rattle.cc_typing.specs.Objects.{callee_at, call_as, call_member}
 use Rattle.cc_typing.specs.New.{new_cells, new_array, object_made, made, made_unless, made_of, new_named, new_object}
-use Rattle.cc_shared.proofs.Runs.{IsThere, Anything, Runs, given, always, bind, next, done}
+use Rattle.cc_shared.proofs.Runs.{IsThere, given, bind, next, done}
 use Rattle.cc_shared.proofs.Forms.{this_values, index_sorts, at_sorts, new_values, new_object_values}
-use Rattle.cc_shared.proofs.TypesOf.{target_type, value_type, IsCellType}
-use Rattle.cc_shared.proofs.Det.{Stands, MakerFits, Reads, Sorted, Values, Leads, OperandBy, OperandFits, ObjectFits, MeaningIn, IsOwnVariable, OwnBy, PlaceFits, MemberArray, VariableArray, ArrayBy, TypedFits}
+use Rattle.cc_shared.proofs.TypesOf.{value_type}
+use Rattle.cc_shared.proofs.Det.{Stands, MakerFits, Reads, Values, OperandBy, OperandFits, ObjectFits, MeaningIn, IsOwnVariable, OwnBy, PlaceFits, MemberArray, VariableArray, ArrayBy, TypedFits}
 use Rattle.cc_shared.proofs.StateLaws.{block_if_runs}
 use Rattle.cc_shared.proofs.LengthLaws.{IsLength}
 use Rattle.cc_shared.proofs.ScopeLaws.{meant_in_fits, never, decay_runs, field_fits}

@@ -2,7 +2,6 @@
 use Rattle.std.proofs.Common.{◌≡◌, ℕ, ℤ, Bool, true, false, cond, List, Option, Some, None, refl, sym, ap, subst, ◌∙◌}
 use Rattle.std.specs.Prelude.{◌&&◌}
 use Rattle.cc_core.specs.declared.expression.Expression.{Expression}
-use Rattle.cc_core.specs.declared.expression.Expression.TheVariants as e
 use Rattle.cc_core.specs.Types.{ValueType, NoValue, AnInt, AnAddress, Cells, FunctionTypes, Types}
 use Rattle.cc_one_answer.specs.Sorts.{Valued}
 use Rattle.std.proofs.lemmas.Bool.{true≢false}
@@ -11,7 +10,6 @@ use Rattle.cc_scopes.specs.declared.state.Local.{Local}
 use Rattle.cc_scopes.specs.declared.types.Declared.{Declared}
 use Rattle.cc_scopes.specs.declared.typed.Root.{Root}
 use Rattle.cc_scopes.specs.declared.typed.Root.TheVariants as root
-use Rattle.cc_names.specs.declared.declarations.ClassId.{ClassId}
 use Rattle.cc_names.specs.declared.rule.StaticRule.{StaticRule}
 use Rattle.cc_ops.specs.declared.operator.Op.{Op}
 use Rattle.cc_ops.specs.declared.operator.Op.TheVariants as op
@@ -28,16 +26,16 @@ use Rattle.cc_scopes.specs.declared.types.Target.{Target}
 use Rattle.cc_scopes.specs.declared.types.Target.TheVariants as target
 use Rattle.cc_scopes.specs.declared.types.Ty.{Ty}
 use Rattle.cc_scopes.specs.declared.types.Ty.TheVariants as ty
-use Rattle.cc_scopes.specs.Elab.{Elab, ◌>>=◌, ◌>>◌, pure}
+use Rattle.cc_scopes.specs.Elab.{Elab}
 use Rattle.cc_scopes.specs.Scope.{Context}
 use Rattle.cc_scopes.specs.Types.{is_int, comparable}
-use Rattle.cc_scopes.specs.Typed.{broken, int, not_void_by, decay, share_address, pointer_to, object_pointer}
+use Rattle.cc_scopes.specs.Typed.{int, not_void_by, decay, pointer_to, object_pointer}
 use Rattle.cc_operators.specs.Folding.{negated_value, computed}
 use Rattle.cc_operators.specs.Operators as operators
 use Rattle.cc_operators.specs.Operators.{unary_term, operated_by, operated, negated, int_at, object_at, at_target, led_by, led, dereferenced}
 use Rattle.cc_operators.specs.Operators.{address_rule, leads_to_sync_alone, address_of, address_unless, place_address, object_address, value_address, address, unary}
 use Rattle.cc_operators.specs.Operators.{arithmetic, joined_term, joined_operands, joined_values, joined_constant, joined_numbers, joined_as, joined}
-use Rattle.cc_shared.proofs.Runs.{IsThere, Anything, Runs, given, always, bind, next, after, done}
+use Rattle.cc_shared.proofs.Runs.{IsThere, given, bind, after, done}
 use Rattle.cc_shared.proofs.Forms.{unary_values, binary_values, and_values, or_values}
 use Rattle.cc_shared.proofs.TypesOf.{target_type, value_type}
 use Rattle.cc_shared.proofs.Det.{Reads, Sorted, Values, OperandBy, OperandFits, ObjectFits, PlaceFits, TypedFits}

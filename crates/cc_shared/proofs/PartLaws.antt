@@ -1,30 +1,28 @@
 -- Parts of an expression, where the expressions in it fit.
-use Rattle.std.proofs.Common.{◌≡◌, ℕ, ◌≤◌, Bool, List, [], ◌∷◌, Option, Some, None, refl, arith}
-use Rattle.cc_core.specs.Types.{ValueType, AnInt, FunctionTypes, Types}
+use Rattle.std.proofs.Common.{ℕ, Bool, List, [], ◌∷◌, Option, Some, None}
+use Rattle.cc_core.specs.Types.{FunctionTypes, Types}
 use Rattle.cc_scopes.specs.declared.state.Local.{Local}
 use Rattle.cc_scopes.specs.declared.types.Declared.{Declared}
 use Rattle.cc_names.specs.Names.{class_named}
 use Rattle.cc_names.specs.Table.{Name}
 use Rattle.cc_tree.specs.declared.expressions.Expr.{Expr}
-use Rattle.cc_tree.specs.declared.expressions.ExprKind.{ExprKind}
 use Rattle.cc_tree.specs.declared.expressions.ExprKind.TheOpen.{Suffix-F}
 use Rattle.cc_tree.specs.declared.expressions.Suffix.{Suffix, out-Suffix}
 use Rattle.cc_tree.specs.declared.expressions.Link.{Link, out-Link}
 use Rattle.cc_tree.specs.declared.expressions.UnaryOp.{UnaryOp}
 use Rattle.cc_typing.specs.declared.calls.Args.{Args}
-use Rattle.cc_scopes.specs.declared.typed.Operand.{Operand}
 use Rattle.cc_scopes.specs.declared.typed.Place.{Place}
 use Rattle.cc_scopes.specs.declared.typed.Typed.{Typed}
 use Rattle.cc_scopes.specs.declared.typed.Typed.TheVariants as typed
-use Rattle.cc_scopes.specs.Elab.{Elab, ◌>>=◌, ◌>>◌, pure}
+use Rattle.cc_scopes.specs.Elab.{Elab}
 use Rattle.cc_scopes.specs.Scope.{Context}
 use Rattle.cc_scopes.specs.Meaning.{meant}
 use Rattle.cc_typing.specs.Calls.{no_args, with_arg, call_named}
 use Rattle.cc_typing.specs.New.{new_cells, new_array}
 use Rattle.cc_typing.specs.Parts.{SuffixLayer, operand, argument, args_from, args, call, links_from, chain, prefixed, new_length, new_int, new_class}
 use Rattle.cc_typing.specs.Parts.{index_value, index_array, index, field, call_on, suffix_as, suffix, suffixes_from, post}
-use Rattle.cc_shared.proofs.Runs.{IsThere, Anything, Runs, given, always, gives, bind, next, done, looking}
-use Rattle.cc_shared.proofs.Det.{Stands, Reads, having, ArgumentFits, OperandFits, ObjectFits, TypedFits}
+use Rattle.cc_shared.proofs.Runs.{IsThere, given, always, gives, bind, done, looking}
+use Rattle.cc_shared.proofs.Det.{Stands, Reads, having, ArgumentFits, OperandFits, TypedFits}
 use Rattle.cc_shared.proofs.LengthLaws.{length_of_runs}
 use Rattle.cc_shared.proofs.ScopeLaws.{meant_fits, decay_runs}
 use Rattle.cc_shared.proofs.OperatorLaws.{unary_runs, joined_runs, each_typed}

@@ -1,10 +1,8 @@
 -- What was collected before an item is read is as clean as what is collected behind it.
-use Rattle.std.proofs.Common.{◌≡◌, ℕ, zero, suc, Bool, true, false, not, List, [], ◌∷◌, ◌++◌, Option, Some, None, refl, sym, ap, subst, ◌∙◌, append-nil}
-use Rattle.std.specs.Prelude.{slice_get, ◌&&◌}
-use Rattle.cc_core.specs.Types.{FunctionTypes, Types, no_types}
+use Rattle.std.proofs.Common.{◌≡◌, ℕ, Bool, false, List, [], ◌∷◌, Option, Some, None, refl, sym, ap, subst, ◌∙◌, append-nil}
+use Rattle.cc_core.specs.Types.{Types, no_types}
 use Rattle.cc_names.specs.Names.{NameTables}
 use Rattle.cc_names.specs.Table.{Name}
-use Rattle.cc_names.specs.declared.rule.StaticRule.TheVariants as r
 use Rattle.cc_ops.specs.declared.build.BuildSet.{BuildSet}
 use Rattle.cc_ops.specs.declared.shape.ClassShape.{ClassShape}
 use Rattle.cc_elaboration.specs.declared.assignments.Assignment.{Assignment}
@@ -14,13 +12,11 @@ use Rattle.cc_declared.specs.Slots.{field}
 use Rattle.cc_functions.specs.declared.done.Done.{Done}
 use Rattle.cc_functions.specs.Builds.{names_own}
 use Rattle.cc_functions.specs.Constructors.{set_or_refused, set_if, assigned_set, assigned, other, refused, set_by, set, with_set, sets_from, param_in, params_in, in_constructor, constructor_at, constructor}
-use Rattle.cc_functions.specs.Functions.{begin, param, share_atomic, parts, finish, function_at, function}
-use Rattle.cc_functions.specs.Items.{with_function, no_members, member_name, field_member, function_member, member_by, members_from, class_item}
-use Rattle.cc_functions.specs.Items.{is_main, constant_item, function_item, class_id, after_constant, after_class, after_function, after_item, items_from}
-use Rattle.cc_scopes.specs.declared.state.Local.{Local}
+use Rattle.cc_functions.specs.Functions.{begin, param, share_atomic, parts, function_at, function}
+use Rattle.cc_functions.specs.Items.{no_members, member_name, field_member, function_member, member_by, members_from, class_item}
+use Rattle.cc_functions.specs.Items.{is_main, constant_item, function_item, class_id, after_constant, after_class, after_function, items_from}
 use Rattle.cc_scopes.specs.declared.state.State.{State}
 use Rattle.cc_scopes.specs.declared.tables.Tables.{Tables}
-use Rattle.cc_scopes.specs.declared.types.Declared.{Declared}
 use Rattle.cc_scopes.specs.Scope.{Context}
 use Rattle.cc_tables.specs.Tables.{outside}
 use Rattle.cc_tree.specs.declared.declarations.ClassDecl.{ClassDecl}
@@ -34,17 +30,16 @@ use Rattle.cc_tree.specs.declared.expressions.Expr.{Expr}
 use Rattle.cc_tree.specs.declared.statements.AssignOp.{AssignOp}
 use Rattle.cc_tree.specs.declared.statements.Decl.{Decl}
 use Rattle.cc_tree.specs.declared.statements.Stmt.{Stmt, out-Stmt}
-use Rattle.cc_tree.specs.declared.statements.StmtKind.{out-StmtKind}
 use Rattle.cc_tree.specs.declared.statements.StmtKind.TheOpen.{StmtKind-F}
 use Rattle.cc_typing.specs.Whole.{constant}
-use Rattle.cc_shared.proofs.Det.{Ends, Reads}
+use Rattle.cc_shared.proofs.Det.{Ends}
 use Rattle.cc_shared.proofs.StateLaws.{not_empty}
 use Rattle.cc_shared.proofs.ExpressionLaws.{constant_runs}
 use Rattle.cc_shared.proofs.DeclaredLaws.{field_runs}
 use Rattle.cc_shared.proofs.AssignmentLaws.{assignment_runs}
-use Rattle.cc_shared.proofs.Proper.{Layer, layer, EachOf, AlwaysProper}
+use Rattle.cc_shared.proofs.Proper.{Layer, layer, EachOf}
 use Rattle.cc_shared.proofs.GrammarLaws.{ProperFunction, ProperMember, ProperItem}
-use Rattle.cc_shared.proofs.CleanLaws.{Clean, note_kept, ParamsDone, param_is}
+use Rattle.cc_shared.proofs.CleanLaws.{Clean, note_kept, param_is}
 use Rattle.cc_shared.proofs.FunctionLaws.{none_atomic, atomic_kept, parts_ends}
 
 -- no rule is broken

@@ -1,9 +1,6 @@
 -- The cells of a class are those that the tables have.
-use Rattle.std.proofs.Common.{◌≡◌, ℕ, zero, suc, ◌+◌, ◌≤◌, ℤ, Bool, true, false, List, [], ◌∷◌, ◌++◌, map, Option, Some, None, refl, sym, ap, subst, ◌∙◌, append-nil}
-use Rattle.std.specs.Prelude.{slice_get, nat_lt}
-use Rattle.cc_core.specs.Types.{FunctionTypes, Types, no_types}
-use Rattle.cc_names.specs.declared.declarations.ClassId.{ClassId}
-use Rattle.cc_ops.specs.declared.shape.CellRun.{CellRun}
+use Rattle.std.proofs.Common.{◌≡◌, ℕ, ◌+◌, List, [], ◌∷◌, ◌++◌, map, Option, Some, None, refl, sym, ap, ◌∙◌, append-nil}
+use Rattle.cc_core.specs.Types.{FunctionTypes, Types}
 use Rattle.cc_ops.specs.declared.shape.ClassShape.{ClassShape}
 use Rattle.cc_declared.specs.declared.role.Role.TheVariants as role
 use Rattle.cc_declared.specs.Slots.{typed_as, with_length, arrayed, slot, field}
@@ -11,7 +8,7 @@ use Rattle.cc_elaboration.specs.Statements.{at_line}
 use Rattle.cc_functions.specs.declared.done.Done.{Done}
 use Rattle.cc_functions.specs.Constructors.{constructor_at}
 use Rattle.cc_functions.specs.Functions.{begin}
-use Rattle.cc_functions.specs.Items.{run_of, with_run, with_function, member_name, field_member, function_member, member_by, members_from as read_members}
+use Rattle.cc_functions.specs.Items.{run_of, field_member, function_member, member_by, members_from as read_members}
 use Rattle.cc_scopes.specs.declared.state.State.{State}
 use Rattle.cc_scopes.specs.declared.types.Declared.{Declared}
 use Rattle.cc_scopes.specs.Elab.{nothing_yet}
@@ -32,7 +29,7 @@ use Rattle.cc_shared.proofs.LengthLaws.{IsLength}
 use Rattle.cc_shared.proofs.ExpressionLaws.{array_length_runs}
 use Rattle.cc_shared.proofs.Proper.{EachOf}
 use Rattle.cc_shared.proofs.GrammarLaws.{ProperMember}
-use Rattle.cc_shared.proofs.CleanLaws.{Clean, typed_kept}
+use Rattle.cc_shared.proofs.CleanLaws.{typed_kept}
 use Rattle.cc_shared.proofs.FunctionLaws.{slice_mapped}
 use Rattle.cc_shared.proofs.ItemLaws.{At}
 use Rattle.cc_shared.proofs.ClassLaws.{by_shape, typed_clean}

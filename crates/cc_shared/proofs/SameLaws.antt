@@ -1,5 +1,5 @@
 -- A type that breaks no rule is the same in a function and among the constants alone: as it is read and as the tables have it.
-use Rattle.std.proofs.Common.{◌≡◌, ℕ, Bool, true, false, not, [], ◌∷◌, Option, Some, None, refl, sym, ap, ◌∙◌}
+use Rattle.std.proofs.Common.{◌≡◌, Bool, true, false, not, [], Option, Some, None, refl, ap, ◌∙◌}
 use Rattle.std.specs.Prelude.{slice_get, ◌&&◌, ◌||◌}
 use Rattle.std.proofs.lemmas.Bool.{false≢true}
 use Rattle.cc_names.specs.Names.{class_named}
@@ -17,14 +17,11 @@ use Rattle.cc_scopes.specs.declared.types.Ty.{Ty}
 use Rattle.cc_scopes.specs.declared.types.Ty.TheVariants as ty
 use Rattle.cc_scopes.specs.Scope.{Context}
 use Rattle.cc_declared.specs.Allowed.{is_global_class, is_global, has_cells, is_variable, reaches, may_be, is_allowed_by, is_allowed}
-use Rattle.cc_declared.specs.Slots.{checked, typed_as, arrayed_by, arrayed, with_length, slot}
+use Rattle.cc_declared.specs.Slots.{checked, typed_as}
 use Rattle.cc_declared.specs.Written.{void_type, class_or_none, written_by, written}
-use Rattle.cc_tree.specs.declared.expressions.Expr.{Expr}
 use Rattle.cc_tree.specs.declared.statements.Base.{Base}
 use Rattle.cc_tree.specs.declared.statements.Base.TheVariants as base
-use Rattle.cc_tree.specs.declared.statements.Decl.{Decl}
 use Rattle.cc_tree.specs.declared.statements.TypeName.{TypeName}
-use Rattle.cc_typing.specs.Whole.{array_length}
 use Rattle.cc_shared.proofs.StateLaws.{not_empty}
 
 left_true' : (x y : Bool) → (x && y) ≡ true → x ≡ true

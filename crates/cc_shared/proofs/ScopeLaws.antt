@@ -1,18 +1,16 @@
 -- Values, names and lengths.
-use Rattle.std.proofs.Common.{◌≡◌, ◌≢◌, ℕ, zero, suc, ◌<◌, ◌≤◌, ℤ, pos, negsuc, Bool, true, false, cond, List, Option, Some, None, refl, sym, ap, ◌∙◌, subst, inl, inr, arith}
-use Rattle.std.specs.Prelude.{slice_get, nat_lt, ◌||◌, int_lt, if◌then◌else◌}
+use Rattle.std.proofs.Common.{◌≡◌, ℕ, ℤ, pos, Bool, true, false, List, Option, Some, None, refl, sym, ap, ◌∙◌, subst, arith}
+use Rattle.std.specs.Prelude.{slice_get, nat_lt}
 use Rattle.cc_core.specs.declared.expression.Constant.TheVariants as constant
 use Rattle.cc_core.specs.declared.expression.Expression.{Expression}
 use Rattle.cc_core.specs.declared.expression.Expression.TheVariants as e
-use Rattle.cc_core.specs.Types.{ValueType, AnInt, AnAddress, Target, Cells, ObjectOf, FunctionTypes, Types, function_types, IsAmong, IsOwnPlace}
-use Rattle.cc_core.specs.View.{term_of}
+use Rattle.cc_core.specs.Types.{ValueType, AnInt, AnAddress, Target, Cells, ObjectOf, FunctionTypes, Types, IsAmong, IsOwnPlace}
 use Rattle.cc_core.proofs.ViewLaws.{variable_is}
 use Rattle.std.proofs.lemmas.Bool.{true≢false}
-use Rattle.cc_one_answer.specs.Sorts.{Sort, Valued, NamedCell, MemberAt, variable_sort, IsCell}
+use Rattle.cc_one_answer.specs.Sorts.{Valued, NamedCell, MemberAt, variable_sort, IsCell}
 use Rattle.cc_names.specs.Names.{entity_named, member_named}
 use Rattle.cc_names.specs.Table.{Name}
-use Rattle.cc_names.specs.declared.broken.Broken.{Broken}
-use Rattle.cc_names.specs.declared.broken.Broken.TheVariants.{Rule, Limit}
+use Rattle.cc_names.specs.declared.broken.Broken.TheVariants.{Rule}
 use Rattle.cc_names.specs.declared.declarations.ClassId.{ClassId}
 use Rattle.cc_names.specs.declared.declarations.MemberId.{MemberId}
 use Rattle.cc_names.specs.declared.declarations.Entity.{Entity}
@@ -26,7 +24,6 @@ use Rattle.cc_scopes.specs.declared.state.State.{State}
 use Rattle.cc_scopes.specs.declared.tables.Class.{Class}
 use Rattle.cc_scopes.specs.declared.tables.Member as table
 use Rattle.cc_scopes.specs.declared.tables.Member.TheVariants as member
-use Rattle.cc_scopes.specs.declared.typed.Object.{Object}
 use Rattle.cc_scopes.specs.declared.typed.Operand.{Operand}
 use Rattle.cc_scopes.specs.declared.typed.Place.{Place}
 use Rattle.cc_scopes.specs.declared.typed.Root.{Root}
@@ -36,22 +33,20 @@ use Rattle.cc_scopes.specs.declared.typed.Typed.TheVariants as typed
 use Rattle.cc_scopes.specs.declared.types.Declared.{Declared}
 use Rattle.cc_scopes.specs.declared.types.Shape.{Shape}
 use Rattle.cc_scopes.specs.declared.types.Shape.TheVariants as shape
-use Rattle.cc_scopes.specs.declared.types.Target as pointee
-use Rattle.cc_scopes.specs.declared.types.Target.TheVariants as target
 use Rattle.cc_scopes.specs.declared.types.Ty.{Ty}
 use Rattle.cc_scopes.specs.declared.types.Ty.TheVariants as ty
-use Rattle.cc_scopes.specs.Elab.{Elab, ◌>>=◌, ◌>>◌, pure, note}
+use Rattle.cc_scopes.specs.Elab.{◌>>◌, pure}
 use Rattle.cc_scopes.specs.Scope.{Context, variable}
-use Rattle.cc_scopes.specs.Typed.{note_rule, broken, no_operand, placed_by, placed_as, place_of, placed, int, pushed, literal, is_far_local, loaded, may_wait, load, load_unless, read}
-use Rattle.cc_scopes.specs.Typed.{share_address, pointer_to, pointed, object_pointer, array_rule_by, array_rule, first_unless, first, not_void_by, not_void, own as own_pointer, decay}
+use Rattle.cc_scopes.specs.Typed.{note_rule, placed_by, placed_as, place_of, placed, int, literal, is_far_local, loaded, may_wait, load, load_unless}
+use Rattle.cc_scopes.specs.Typed.{share_address, pointer_to, pointed, array_rule, first_unless, not_void_by, own as own_pointer, decay}
 use Rattle.cc_scopes.specs.Types.{int_target}
 use Rattle.cc_scopes.specs.Meaning.{class_at, member_in, member_at, member_of, constant_value, of_member, of_entity, of_file, member_or_file, outside_by, variable_or, meant, meant_in}
 use Rattle.cc_scopes.specs.Meaning.{of_constant, of_variable, own_field, of_meaning, name, this_in, this_by, this}
-use Rattle.cc_shared.proofs.Runs.{IsThere, Anything, Runs, given, always, bind, next, after, done, looking, either}
+use Rattle.cc_shared.proofs.Runs.{IsThere, given, next, after, done, looking}
 use Rattle.cc_shared.proofs.Forms.{push_values, this_values, variable_sorts, member_sorts, load_values}
-use Rattle.cc_shared.proofs.TypesOf.{target_type, value_type, target_by, target_of, IsCellType, FieldBy, FieldFits, MemberFits}
-use Rattle.cc_shared.proofs.Det.{Matches, Stands, VariableFits, FoundFits, LocalsFit, Keeps, Reads, having, Sorted, Values, OperandBy, OperandFits, ObjectFits}
-use Rattle.cc_shared.proofs.Det.{MeaningIn, Own, ConstantFits, MeaningFits, IsOwnVariable, PlaceFits, MemberArray, VariableArray, ArrayBy, TypedFits}
+use Rattle.cc_shared.proofs.TypesOf.{value_type, target_by, target_of, IsCellType, FieldBy, FieldFits, MemberFits}
+use Rattle.cc_shared.proofs.Det.{Stands, FoundFits, LocalsFit, Keeps, Reads, having, Sorted, Values, OperandBy, OperandFits}
+use Rattle.cc_shared.proofs.Det.{MeaningIn, ConstantFits, MeaningFits, IsOwnVariable, PlaceFits, VariableArray, ArrayBy, TypedFits}
 use Rattle.cc_shared.proofs.StateLaws.{IfThere, found_fits, note_runs, share_runs, block_if_runs}
 
 -- ---- members and names

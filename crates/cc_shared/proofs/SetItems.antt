@@ -1,54 +1,40 @@
 -- What the constructors of a program assign has the types of their classes.
-use Rattle.std.proofs.Common.{◌≡◌, ℕ, zero, suc, ◌+◌, ◌<◌, ◌≤◌, ℤ, Bool, true, false, not, List, [], ◌∷◌, ◌++◌, length, map, Option, Some, None, refl, sym, ap, subst, ◌∙◌, arith, append-nil, zero-add}
-use Rattle.std.specs.Prelude.{slice_get, get_or, nat_lt, ◌&&◌, bytes_eq}
-use Rattle.std.proofs.lemmas.Option.{none-some}
-use Rattle.cc_core.specs.Core.{no_class}
-use Rattle.cc_core.specs.Types.{ValueType, NoValue, Target, FunctionTypes, Types}
-use Rattle.cc_names.specs.Declarations.{after_methods}
-use Rattle.cc_names.specs.Group.{constructor_lines, second_constructors, class_rules, item_rules, parameter_rules}
-use Rattle.cc_names.specs.Names.{NameTables}
+use Rattle.std.proofs.Common.{◌≡◌, ℕ, suc, ◌+◌, Bool, false, List, [], ◌∷◌, ◌++◌, length, map, Some, refl, sym, ap, subst, ◌∙◌, arith, append-nil, zero-add}
+use Rattle.std.specs.Prelude.{slice_get}
+use Rattle.cc_core.specs.Types.{ValueType, NoValue, FunctionTypes, Types}
+use Rattle.cc_names.specs.Group.{constructor_lines, second_constructors}
 use Rattle.cc_names.specs.Table.{Name}
 use Rattle.cc_names.specs.declared.broken.Broken.TheVariants.{Rule}
-use Rattle.cc_names.specs.declared.declarations.ClassId.{ClassId}
 use Rattle.cc_names.specs.declared.rule.StaticRule.TheVariants.{NameTwice}
-use Rattle.cc_one_answer.specs.Determinate.{IsBuiltFrom, IsSetAt, AreSets}
-use Rattle.cc_ops.specs.Shapes.{shape_of, set_of as shape_set}
+use Rattle.cc_one_answer.specs.Determinate.{IsBuiltFrom, IsSetAt}
+use Rattle.cc_ops.specs.Shapes.{set_of as shape_set}
 use Rattle.cc_ops.specs.declared.build.BuildSet.{BuildSet}
 use Rattle.cc_ops.specs.declared.shape.ClassShape.{ClassShape}
 use Rattle.cc_declared.specs.Slots.{value_type as declared_type}
 use Rattle.cc_elaboration.specs.Statements.{at_line}
 use Rattle.cc_functions.specs.declared.done.Done.{Done}
-use Rattle.cc_functions.specs.Constructors.{param_in, params_in, in_constructor, constructor_at, constructor, sets_from}
+use Rattle.cc_functions.specs.Constructors.{param_in, params_in, in_constructor, constructor_at, constructor}
 use Rattle.cc_functions.specs.Functions.{begin, param}
-use Rattle.cc_functions.specs.Items.{filled, no_members, member_name, field_member, function_member, member_by, members_from as read_members, class_item}
-use Rattle.cc_functions.specs.Items.{constant_item, function_item, class_id, after_constant, after_class, after_function, items_from}
+use Rattle.cc_functions.specs.Items.{field_member, function_member, member_by, members_from as read_members}
 use Rattle.cc_scopes.specs.declared.state.Local.{Local}
 use Rattle.cc_scopes.specs.declared.state.State.{State}
-use Rattle.cc_scopes.specs.declared.tables.Class.{Class}
-use Rattle.cc_scopes.specs.declared.tables.Tables.{Tables}
 use Rattle.cc_scopes.specs.declared.types.Declared.{Declared}
-use Rattle.cc_scopes.specs.Meaning.{value_in}
 use Rattle.cc_scopes.specs.Scope.{Context}
-use Rattle.cc_tables.specs.Tables.{outside, param_types, constructor_types, class_of, classes_from}
+use Rattle.cc_tables.specs.Tables.{param_types, constructor_types}
 use Rattle.cc_tree.specs.declared.declarations.ClassDecl.{ClassDecl}
-use Rattle.cc_tree.specs.declared.declarations.Item.{Item}
-use Rattle.cc_tree.specs.declared.declarations.Item.TheVariants as item
 use Rattle.cc_tree.specs.declared.declarations.Member.{Member}
 use Rattle.cc_tree.specs.declared.declarations.Member.TheVariants as member
 use Rattle.cc_tree.specs.declared.declarations.Param.{Param}
 use Rattle.cc_tree.specs.declared.statements.Stmt.{Stmt}
-use Rattle.cc_source.proofs.RuleLaws.{empty_before, empty_behind, rules_of_class}
-use Rattle.cc_shared.proofs.Runs.{IsThere, Anything}
 use Rattle.cc_shared.proofs.TypesOf.{value_type, target_of, IsCellType}
-use Rattle.cc_shared.proofs.Det.{Matches, Stands, LocalsFit}
+use Rattle.cc_shared.proofs.Det.{LocalsFit}
 use Rattle.cc_shared.proofs.Proper.{EachOf}
-use Rattle.cc_shared.proofs.GrammarLaws.{ProperMember, ProperItem}
+use Rattle.cc_shared.proofs.GrammarLaws.{ProperMember}
 use Rattle.cc_shared.proofs.CleanLaws.{Clean, AllParameters, AreNumbered, assoc, one_longer, note_kept, param_is, param_type_fits}
 use Rattle.cc_shared.proofs.FunctionLaws.{slice_mapped, parameter_value}
 use Rattle.cc_shared.proofs.KnownLaws.{param_same}
-use Rattle.cc_shared.proofs.QuietLaws.{Quiet, members_quiet, items_quiet, sets_quiet, params_in_quiet}
-use Rattle.cc_shared.proofs.ItemLaws.{At, constant_count}
-use Rattle.cc_shared.proofs.CellLaws.{items_shapes}
+use Rattle.cc_shared.proofs.QuietLaws.{Quiet, members_quiet, sets_quiet, params_in_quiet}
+use Rattle.cc_shared.proofs.ItemLaws.{At}
 use Rattle.cc_shared.proofs.ConstructorLaws.{all_got, all_sets}
 
 -- ---- the parameters of a constructor

@@ -1,24 +1,20 @@
 -- What a constructor's assignment puts into an object has the types of its class.
-use Rattle.std.proofs.Common.{◌≡◌, ℕ, zero, suc, ◌+◌, ◌<◌, ◌≤◌, Bool, true, false, cond, List, [], ◌∷◌, ◌++◌, length, map, Option, Some, None, refl, sym, ap, subst, ◌∙◌}
-use Rattle.std.specs.Prelude.{slice_get, get_or}
+use Rattle.std.proofs.Common.{◌≡◌, ℕ, ◌+◌, ◌<◌, Bool, true, false, cond, Option, Some, None, refl, sym, ap, subst, ◌∙◌}
 use Rattle.std.proofs.lemmas.Bool.{true≢false}
 use Rattle.std.proofs.lemmas.Option.{none-some}
-use Rattle.cc_core.specs.declared.expression.Constant.{Constant}
 use Rattle.cc_core.specs.declared.expression.Expression.{Expression, out-Expression, roll-Expression, roll-out-Expression, fold-roll-Expression}
 use Rattle.cc_core.specs.declared.expression.Expression.TheOpen.{Expression-F}
 use Rattle.cc_core.specs.Core as core
 use Rattle.cc_core.specs.Core.{Term}
-use Rattle.cc_core.specs.Types.{ValueType, AnAddress, Cells, Target, ObjectOf, FunctionTypes, Types}
+use Rattle.cc_core.specs.Types.{ValueType, AnAddress, Cells, ObjectOf, FunctionTypes, Types}
 use Rattle.cc_core.specs.View.{term_of, term_with}
-use Rattle.cc_one_answer.specs.Sorts.{Sort, Valued, NamedCell, MemberAt, MemberCell, variable_sort, member, IsCell, IsElement}
-use Rattle.cc_one_answer.specs.Determinate.{DetTerm, IsBuiltFrom, IsSetAt}
-use Rattle.cc_ops.specs.Shapes.{expr_of, index_of, set_of as shape_set}
+use Rattle.cc_one_answer.specs.Sorts.{Sort, Valued, MemberAt, MemberCell, member, IsCell, IsElement}
+use Rattle.cc_one_answer.specs.Determinate.{DetTerm}
 use Rattle.cc_ops.specs.declared.operator.Op.{Op}
 use Rattle.cc_ops.specs.declared.build.BuildExpr.{BuildExpr}
 use Rattle.cc_ops.specs.declared.build.BuildExpr.TheVariants as build
-use Rattle.cc_ops.specs.declared.build.BuildSet.{BuildSet}
-use Rattle.cc_functions.specs.Builds.{param_by, param_at, applied, applied_both, both, either, built_by, built, built_to, build_of, is_this_by, is_this, own_offset_by, own_offset, member_set, element_set, set_by, set_of}
-use Rattle.cc_shared.proofs.Det.{Sorted, Values}
+use Rattle.cc_functions.specs.Builds.{param_by, param_at, applied, applied_both, both, either, is_this_by, is_this, own_offset_by, own_offset}
+use Rattle.cc_shared.proofs.Det.{Sorted}
 
 some_inside : {A : Type 0} (x y : A) → Some x ≡ Some y → x ≡ y
 some_inside {A = A} x y is = ap (λ o. elim o as (λ z. A) [ None ↦ x | Some z ↦ z ]) is

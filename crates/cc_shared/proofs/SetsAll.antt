@@ -1,7 +1,6 @@
 -- The assignments of each class of a program, by its number.
-use Rattle.std.proofs.Common.{◌≡◌, ℕ, zero, suc, ◌+◌, ◌≤◌, ℤ, Bool, true, List, [], ◌∷◌, map, Option, Some, None, refl, sym, ap, subst, ◌∙◌, arith, zero-add}
+use Rattle.std.proofs.Common.{◌≡◌, ℕ, zero, suc, ◌+◌, ◌≤◌, ℤ, true, List, [], ◌∷◌, map, Option, Some, None, refl, sym, ap, subst, ◌∙◌, arith, zero-add}
 use Rattle.std.specs.Prelude.{slice_get, get_or, nat_lt}
-use Rattle.std.proofs.lemmas.Option.{none-some}
 use Rattle.cc_core.specs.Core.{shapes, class_shape, no_class}
 use Rattle.cc_core.specs.Types.{ValueType, Types}
 use Rattle.cc_core.specs.View.{program_of}
@@ -14,7 +13,7 @@ use Rattle.cc_ops.specs.Shapes.{shape_of, set_of as shape_set}
 use Rattle.cc_ops.specs.declared.build.BuildSet.{BuildSet}
 use Rattle.cc_ops.specs.declared.shape.ClassShape.{ClassShape}
 use Rattle.cc_functions.specs.declared.done.Done.{Done}
-use Rattle.cc_functions.specs.Items.{nothing_done, no_members, constant_item, function_item, class_item, class_id, after_constant, after_class, after_function, items_from}
+use Rattle.cc_functions.specs.Items.{nothing_done, no_members, function_item, class_item, class_id, after_constant, after_class, after_function, items_from}
 use Rattle.cc_scopes.specs.declared.state.State.{State}
 use Rattle.cc_scopes.specs.declared.tables.Class.{Class}
 use Rattle.cc_scopes.specs.declared.tables.Tables.{Tables}
@@ -36,7 +35,7 @@ use Rattle.cc_shared.proofs.QuietLaws.{Quiet, items_quiet}
 use Rattle.cc_shared.proofs.ItemLaws.{At, constant_count}
 use Rattle.cc_shared.proofs.CellLaws.{items_shapes}
 use Rattle.cc_shared.proofs.TypeTables.{maker_types, types_of}
-use Rattle.cc_shared.proofs.SetItems.{Canon, members_sets}
+use Rattle.cc_shared.proofs.SetItems.{members_sets}
 use Rattle.cc_shared.proofs.WholeLaws.{proper, quiet_reading, quiet_items, matches_all, below, types_all}
 use Rattle.cc_shared.proofs.FinalLaws.{mapped_at, classes_are, determinate_but_sets}
 

@@ -1,6 +1,6 @@
 -- Statements that hold no statement.
-use Rattle.std.proofs.Common.{◌≡◌, ◌≢◌, map, ℕ, suc, Bool, true, false, not, cond, ◌∙◌, sym, ap, subst, List, [], ◌∷◌, ◌++◌, Option, Some, None, refl}
-use Rattle.std.specs.Prelude.{slice_get, ◌&&◌}
+use Rattle.std.proofs.Common.{◌≡◌, map, ℕ, Bool, true, false, not, sym, subst, List, [], ◌∷◌, ◌++◌, Option, Some, None, refl}
+use Rattle.std.specs.Prelude.{slice_get}
 use Rattle.std.proofs.lemmas.Bool.{true≢false}
 use Rattle.cc_core.specs.declared.expression.Constant.TheVariants as constant
 use Rattle.cc_core.specs.declared.expression.Expression.{Expression, out-Expression, roll-Expression, roll-out-Expression, fold-roll-Expression}
@@ -8,13 +8,11 @@ use Rattle.cc_core.specs.declared.expression.Expression.TheVariants as e
 use Rattle.cc_core.specs.declared.expression.Expression.TheOpen.{Expression-F}
 use Rattle.cc_core.specs.declared.expression.How.{How}
 use Rattle.cc_core.specs.declared.expression.PrintPart.{PrintPart}
-use Rattle.cc_core.specs.declared.expression.PrintPart.TheVariants as part'
-use Rattle.cc_core.specs.declared.statement.Statement.{Statement}
 use Rattle.cc_core.specs.declared.statement.Statement.TheVariants as s
 use Rattle.cc_core.specs.Core.{Term}
-use Rattle.cc_core.specs.Types.{ValueType, NoValue, AnInt, AnAddress, FunctionTypes, Types, declares}
-use Rattle.cc_core.specs.View.{term_of, term_with, stmt_of, how_of}
-use Rattle.cc_core.proofs.ViewLaws.{empty_is, drop_is, print_is, spawn_is, return_is}
+use Rattle.cc_core.specs.Types.{ValueType, NoValue, AnInt, AnAddress, FunctionTypes, Types}
+use Rattle.cc_core.specs.View.{term_of, term_with}
+use Rattle.cc_core.proofs.ViewLaws.{spawn_is}
 use Rattle.cc_one_answer.specs.Sorts.{Valued}
 use Rattle.cc_one_answer.specs.Determinate.{DetTerm, DetStmt}
 use Rattle.cc_names.specs.declared.rule.StaticRule.{StaticRule}
@@ -27,12 +25,11 @@ use Rattle.cc_scopes.specs.declared.typed.Typed.TheVariants as typed
 use Rattle.cc_scopes.specs.declared.types.Declared.{Declared}
 use Rattle.cc_scopes.specs.declared.types.Ty.{Ty}
 use Rattle.cc_scopes.specs.declared.types.Ty.TheVariants as ty
-use Rattle.cc_scopes.specs.Elab.{Elab, ◌>>=◌, ◌>>◌, pure}
 use Rattle.cc_scopes.specs.Scope.{Context}
-use Rattle.cc_elaboration.specs.Simple.{no_value, term_or_none, int_value, dropped, call, spawned_by, spawned, spawn, nothing_printed, with_number, with_part, printed_value}
+use Rattle.cc_elaboration.specs.Simple.{term_or_none, int_value, dropped, call, spawned_by, spawned, spawn, with_number, printed_value}
 use Rattle.cc_elaboration.specs.Simple.{printed_item, printed_from, share_print, prints_alone, print, note_if, is_void, return_value, return_from_void, return_some, return_nothing, returned, give}
-use Rattle.cc_shared.proofs.Runs.{IsThere, Anything, Runs, given, always, bind, next, after, done}
-use Rattle.cc_shared.proofs.Forms.{StmtFits, push_values, no_values, more_values, empty_fits, drop_fits, print_fits, spawn_fits, return_fits}
+use Rattle.cc_shared.proofs.Runs.{IsThere, given, always, bind, next, after, done}
+use Rattle.cc_shared.proofs.Forms.{StmtFits, push_values, no_values, more_values, empty_fits, drop_fits, print_fits, return_fits}
 use Rattle.cc_shared.proofs.TypesOf.{target_type, value_type, target_of, IsCellType, IsResultType}
 use Rattle.cc_shared.proofs.Det.{Stands, Reads, having, Values, AllValues, OperandBy, TypedFits}
 use Rattle.cc_shared.proofs.StateLaws.{share_runs, block_runs}

@@ -1,5 +1,5 @@
 -- The steps that collect, and the variables in scope.
-use Rattle.std.proofs.Common.{◌≡◌, ◌≢◌, ℕ, zero, suc, ◌+◌, ◌<◌, ◌≤◌, Bool, true, false, cond, List, [], ◌∷◌, ◌++◌, length, take, Option, Some, None, refl, sym, ap, ◌∙◌, subst, arith, length-append}
+use Rattle.std.proofs.Common.{◌≡◌, ℕ, ◌+◌, Bool, true, false, List, [], ◌∷◌, ◌++◌, length, Option, Some, None, ap, arith, length-append}
 use Rattle.std.specs.Prelude.{bytes_eq}
 use Rattle.cc_names.specs.Table.{Name}
 use Rattle.cc_names.specs.declared.broken.Broken.{Broken}
@@ -7,12 +7,11 @@ use Rattle.cc_names.specs.declared.declarations.FunId.{FunId}
 use Rattle.cc_scopes.specs.declared.scope.Found.{Found}
 use Rattle.cc_scopes.specs.declared.sharing.ShareRule.{ShareRule}
 use Rattle.cc_scopes.specs.declared.state.Local.{Local}
-use Rattle.cc_scopes.specs.declared.state.State.{State}
 use Rattle.cc_scopes.specs.declared.types.Declared.{Declared}
-use Rattle.cc_scopes.specs.Elab.{Elab, ◌>>=◌, ◌>>◌, pure, note, share, block, block_if, call}
-use Rattle.cc_scopes.specs.Scope.{Context, found_as, later, variable_from, variable}
-use Rattle.cc_shared.proofs.Runs.{IsThere, Anything, Runs, given, always, bind, next, done, either}
-use Rattle.cc_shared.proofs.Det.{Ends, VariableFits, FoundFits, LocalsFit, Keeps, Reads}
+use Rattle.cc_scopes.specs.Elab.{note, share, block, block_if, call}
+use Rattle.cc_scopes.specs.Scope.{found_as, later, variable_from, variable}
+use Rattle.cc_shared.proofs.Runs.{Anything, either}
+use Rattle.cc_shared.proofs.Det.{FoundFits, LocalsFit, Reads}
 
 -- a list that ends in something is not empty
 pub not_empty : {A : Type 0} (xs : List A) (x : A) → xs ++ x ∷ [] ≡ [] → ⊥

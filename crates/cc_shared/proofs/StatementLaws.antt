@@ -1,16 +1,14 @@
 -- Statements.
-use Rattle.std.proofs.Common.{◌≡◌, ◌≢◌, ℕ, zero, suc, ◌+◌, ◌<◌, ◌≤◌, ℤ, pos, Bool, true, false, ◌∙◌, sym, ap, subst, List, [], ◌∷◌, ◌++◌, length, Option, Some, None, refl, arith, inl, inr, length-append}
-use Rattle.std.specs.Prelude.{slice_get, not, ◌&&◌}
-use Rattle.std.proofs.lemmas.Bool.{true≢false}
+use Rattle.std.proofs.Common.{◌≡◌, ℕ, zero, suc, ◌+◌, ◌≤◌, pos, Bool, true, false, ◌∙◌, sym, ap, subst, List, [], ◌∷◌, ◌++◌, length, Option, Some, None, refl, arith, inl, length-append}
+use Rattle.std.specs.Prelude.{slice_get, ◌&&◌}
 use Rattle.cc_core.specs.declared.expression.Constant.TheVariants as constant
 use Rattle.cc_core.specs.declared.expression.Expression.{Expression}
-use Rattle.cc_core.specs.declared.expression.Expression.TheVariants as e
 use Rattle.cc_core.specs.declared.statement.Statement.{Statement}
 use Rattle.cc_core.specs.declared.statement.Statement.TheVariants as s
 use Rattle.cc_core.specs.Core.{Stmt as CoreStmt}
-use Rattle.cc_core.specs.Types.{ValueType, AnInt, Cells, FunctionTypes, Types, declares}
+use Rattle.cc_core.specs.Types.{AnInt, FunctionTypes, Types, declares}
 use Rattle.cc_core.specs.View.{stmt_of}
-use Rattle.cc_core.proofs.ViewLaws.{empty_is, at_line_is, assign_is, drop_is, print_is, if_is, if_else_is, while_is, for_is, par_is, parfor_is, spawn_is, return_is, block_is}
+use Rattle.cc_core.proofs.ViewLaws.{empty_is, at_line_is, assign_is, drop_is, print_is, if_is, if_else_is, while_is, par_is, parfor_is, spawn_is, return_is, block_is}
 use Rattle.cc_names.specs.Table.{Name}
 use Rattle.cc_names.specs.declared.rule.StaticRule.{StaticRule}
 use Rattle.cc_names.specs.declared.rule.StaticRule.TheVariants as r
@@ -24,35 +22,33 @@ use Rattle.cc_scopes.specs.declared.typed.Typed.{Typed}
 use Rattle.cc_scopes.specs.declared.typed.Typed.TheVariants as typed
 use Rattle.cc_typing.specs.Expr.{expr}
 use Rattle.cc_tree.specs.declared.statements.Stmt.{Stmt, out-Stmt}
-use Rattle.cc_tree.specs.declared.statements.StmtKind.{StmtKind, out-StmtKind}
 use Rattle.cc_tree.specs.declared.statements.StmtKind.TheOpen.{StmtKind-F}
 use Rattle.cc_scopes.specs.declared.state.Local.{Local}
 use Rattle.cc_scopes.specs.declared.state.State.{State}
 use Rattle.cc_scopes.specs.declared.types.Declared.{Declared}
-use Rattle.cc_scopes.specs.declared.types.Ty.TheVariants as ty
 use Rattle.cc_scopes.specs.Elab.{Elab, ◌>>=◌, ◌>>◌, pure, block, leave}
-use Rattle.cc_scopes.specs.Scope.{Context, declare, bring}
+use Rattle.cc_scopes.specs.Scope.{Context}
 use Rattle.cc_scopes.specs.Typed.{note_rule}
 use Rattle.cc_elaboration.specs.declared.assignments.Assignment.{Assignment}
 use Rattle.cc_elaboration.specs.Assignments.{assignment, stored, assign}
-use Rattle.cc_elaboration.specs.Declarations.{made, started, declaration}
+use Rattle.cc_elaboration.specs.Declarations.{made, declaration}
 use Rattle.cc_elaboration.specs.Simple.{prints_alone, dropped, spawned_by, spawned, no_value}
 use Rattle.cc_elaboration.specs.Simple.{int_value, call as call_statement, print as print_statement, spawn as spawn_statement, is_void, return_value, return_from_void, return_some, returned, give}
 use Rattle.cc_elaboration.specs.Statements.{inside, branch, at_line, plain_int, assigned_value, names, step_value, condition}
 use Rattle.cc_elaboration.specs.Statements.{statements_from, statements, block_of, open_block, body_by, body, if_only, both, if_else, choice, repeated, step, turn, counted, headed, loop_of}
 use Rattle.cc_elaboration.specs.Statements.{part, parts_from, parts, par, no_step, step_if, header_step_by, header_step, header_rest, header, copied, each, iterated, parfor}
-use Rattle.cc_elaboration.specs.Statements.{kind, kind_of, node, too_deep, statement_to, statement, function_body}
-use Rattle.cc_shared.proofs.Runs.{IsThere, Anything, Runs, given, always, bind, next, done}
+use Rattle.cc_elaboration.specs.Statements.{kind, kind_of, node, statement_to, statement, function_body}
+use Rattle.cc_shared.proofs.Runs.{IsThere}
 use Rattle.cc_shared.proofs.Forms.{StmtFits, StmtsFit, BranchesFit, declares_all, declares_more, one_more, one_branch, push_values, empty_fits, at_line_fits, if_fits, if_else_fits, while_fits, for_fits, par_fits, parfor_fits, block_fits}
 use Rattle.cc_shared.proofs.TypesOf.{target_of}
-use Rattle.cc_shared.proofs.Det.{Ends, Stands, VariableFits, LocalsFit, Reads, Values}
+use Rattle.cc_shared.proofs.Det.{Stands, LocalsFit, Reads, Values}
 use Rattle.cc_shared.proofs.StateLaws.{not_empty}
 use Rattle.cc_shared.proofs.AssignmentLaws.{assign_runs}
 use Rattle.cc_shared.proofs.SimpleLaws.{int_value_runs, call_statement_runs, spawn_runs, print_runs, give_runs}
 use Rattle.cc_shared.proofs.DeclaredLaws.{variable_runs}
 use Rattle.cc_shared.proofs.DeclarationLaws.{Makes, started_runs, bring_g, declare_g}
 use Rattle.cc_shared.proofs.HeaderLaws.{own_assignment_runs}
-use Rattle.cc_shared.proofs.Goes.{Goes, given_g, gives_g, bind_g, next_g, done_g, looking_g, frame_g, reads_g, block_g, leave_g, at_g, exact_g, Extends, extends_same, extends_more, Good, rebase, good_wider}
+use Rattle.cc_shared.proofs.Goes.{Goes, given_g, gives_g, bind_g, next_g, done_g, looking_g, frame_g, reads_g, block_g, leave_g, at_g, exact_g, Extends, extends_same, extends_more, Good, rebase}
 use Rattle.cc_shared.proofs.Proper.{Layer, layer, DeclaresNone, IsPlain, EachOf, IfSome, Sub, ProperParts, AlwaysProper, always_parts, always_opened}
 
 module _ (y : Types) (main : ℕ) (here : FunctionTypes) (F : Type 0) (ds : List Declared) where

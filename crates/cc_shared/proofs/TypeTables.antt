@@ -4,17 +4,13 @@ use Rattle.std.proofs.Common.{◌≡◌, ◌≢◌, ℕ, zero, suc, ◌+◌, ◌
 use Rattle.std.proofs.lemmas.Bool.{false≢true}
 use Rattle.std.specs.Prelude.{slice_get, get_or, bytes_eq, codes}
 use Rattle.std.proofs.lemmas.Option.{none-some}
-use Rattle.cc_core.specs.Types.{ValueType, NoValue, AnInt, AnAddress, Target, Cells, ObjectOf, FunctionTypes, Types, no_types, function_types}
+use Rattle.cc_core.specs.Types.{ValueType, AnInt, Target, Cells, FunctionTypes, Types, no_types}
 use Rattle.cc_names.specs.Declarations.{after_methods}
 use Rattle.cc_names.specs.Names.{NameTables}
-use Rattle.cc_names.specs.declared.declarations.ClassId.{ClassId}
 use Rattle.cc_names.specs.declared.declarations.FunId.{FunId}
 use Rattle.cc_one_answer.specs.Sorts.{member, is_sync}
 use Rattle.cc_one_answer.specs.Determinate.{AreRuns}
 use Rattle.cc_ops.specs.Values.{last_offset}
-use Rattle.cc_ops.specs.declared.kind.Kind.{Kind}
-use Rattle.cc_ops.specs.declared.kind.Kind.TheVariants as kind
-use Rattle.cc_ops.specs.declared.shape.CellRun.{CellRun}
 use Rattle.cc_scopes.specs.declared.tables.Class.{Class}
 use Rattle.cc_scopes.specs.declared.tables.Member.{Member as Entry}
 use Rattle.cc_scopes.specs.declared.tables.Member.TheVariants as entry
@@ -27,17 +23,14 @@ use Rattle.cc_scopes.specs.declared.types.Ty.{Ty}
 use Rattle.cc_scopes.specs.declared.types.Ty.TheVariants as ty
 use Rattle.cc_scopes.specs.Scope.{Context}
 use Rattle.cc_scopes.specs.Types.{cell_kind}
-use Rattle.cc_tables.specs.Tables.{constants_alone, outside, width, field_of, param_types, members_from, constructor_types, class_of, classes_from, result_of, signature, methods, functions_of, constants_of, constants_from, tables_of}
-use Rattle.cc_tree.specs.declared.declarations.ClassDecl.{ClassDecl}
-use Rattle.cc_tree.specs.declared.declarations.Function.{Function}
+use Rattle.cc_tables.specs.Tables.{outside, width, field_of, members_from, class_of, classes_from, signature, methods, functions_of, constants_of, tables_of}
 use Rattle.cc_tree.specs.declared.declarations.Item.{Item}
 use Rattle.cc_tree.specs.declared.declarations.Item.TheVariants as item
 use Rattle.cc_tree.specs.declared.declarations.Member.{Member}
 use Rattle.cc_tree.specs.declared.declarations.Member.TheVariants as member
-use Rattle.cc_tree.specs.declared.statements.Decl.{Decl}
 use Rattle.cc_functions.specs.Items.{run_of, one_int, filled_runs}
 use Rattle.cc_elaboration.specs.Declarations.{cells}
-use Rattle.cc_shared.proofs.TypesOf.{value_type, target_of, target_by, FieldBy, IsCellType, IsResultType, AllCellTypes, FieldFits, MemberFits}
+use Rattle.cc_shared.proofs.TypesOf.{value_type, target_of, target_by, FieldBy, IsCellType, IsResultType, AllCellTypes, MemberFits}
 use Rattle.cc_shared.proofs.Det.{SignatureFits, MakerFits, Matches}
 
 -- ---- functions

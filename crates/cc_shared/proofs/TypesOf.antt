@@ -1,5 +1,5 @@
 -- The types of the core that the types of a text are.
-use Rattle.std.proofs.Common.{◌≡◌, ℕ, ◌+◌, ◌<◌, ◌≤◌, true, false, List, [], ◌∷◌, Option, Some, None}
+use Rattle.std.proofs.Common.{◌≡◌, ℕ, ◌+◌, ◌<◌, ◌≤◌, true, false, List, [], ◌∷◌, Some}
 use Rattle.cc_ops.specs.Values.{last_offset}
 use Rattle.cc_core.specs.Types.{ValueType, NoValue, AnInt, AnAddress, Target, Cells, ObjectOf, Types, function_types}
 use Rattle.cc_one_answer.specs.Sorts.{member}

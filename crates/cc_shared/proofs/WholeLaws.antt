@@ -1,12 +1,9 @@
 -- Each function of a program that breaks no rule is determinate, with the types of the tables.
-use Rattle.std.proofs.Common.{◌≡◌, ◌≢◌, ℕ, zero, suc, ◌+◌, ◌<◌, ◌≤◌, ℤ, Bool, true, false, List, [], ◌∷◌, ◌++◌, length, length-append, map, Option, Some, None, refl, sym, ap, subst, ◌∙◌, arith, zero-add}
+use Rattle.std.proofs.Common.{◌≡◌, ◌≢◌, ℕ, suc, ◌+◌, ◌<◌, ◌≤◌, ℤ, true, false, List, [], ◌∷◌, ◌++◌, length, length-append, Option, Some, None, refl, sym, ap, subst, arith}
 use Rattle.std.specs.Prelude.{slice_get, nat_lt}
-use Rattle.std.proofs.lemmas.Bool.{ltb-true, lt-ltb, true≢false}
-use Rattle.std.proofs.lemmas.Option.{none-some}
-use Rattle.cc_blocking.specs.Rounds.{may_block, atomic_rules}
+use Rattle.std.proofs.lemmas.Bool.{ltb-true, lt-ltb}
 use Rattle.cc_core.specs.Types.{Target, Types}
-use Rattle.cc_core.specs.declared.program.Function.{Function as CoreFunction}
-use Rattle.cc_functions.specs.Items.{nothing_done, start, items, items_from}
+use Rattle.cc_functions.specs.Items.{nothing_done, items, items_from}
 use Rattle.cc_functions.specs.declared.done.Done.{Done}
 use Rattle.cc_names.specs.Declarations.{after_methods}
 use Rattle.cc_names.specs.Group.{member_lines, class_rules, item_rules, parameter_rules, first_group}
@@ -14,7 +11,6 @@ use Rattle.cc_names.specs.Names.{NameTables, names_of}
 use Rattle.cc_names.specs.declared.broken.Broken.{Broken}
 use Rattle.cc_scopes.specs.declared.state.State.{State}
 use Rattle.cc_scopes.specs.declared.tables.Class.{Class}
-use Rattle.cc_scopes.specs.declared.tables.Member.{Member as Entry}
 use Rattle.cc_scopes.specs.declared.tables.Signature.{Signature}
 use Rattle.cc_scopes.specs.declared.tables.Tables.{Tables}
 use Rattle.cc_scopes.specs.Elab.{nothing_yet}

@@ -1,4 +1,4 @@
-use Rattle.std.proofs.Common.{◌≡◌, ap, sym, ◌∙◌}
+use Rattle.std.proofs.Common.{ap, sym, ◌∙◌}
 use Rattle.cc_shared.proofs.OneAnswerLaws.{one_run_decides}
 use Rattle.sharing_check.specs.Sharing.{sharing_of}
 use Rattle.sharing_check.proofs.LeastLaws.{none_shared}
