@@ -1,1 +1,4 @@
 pub mod Numbered
+pub mod WayLaws
+pub mod ValidLaws
+pub mod QuietLaws

@@ -1,5 +1,5 @@
 -- Threads with numbers follow the source, since threads with names do.
-use Rattle.std.proofs.Common.{◌≡◌, ℕ, suc, ◌<◌, List, [], ◌∷◌, length, refl, sym, ap, ◌∙◌, subst}
+use Rattle.std.proofs.Common.{◌≡◌, ℕ, suc, ◌<◌, List, [], ◌∷◌, length, refl, sym, ◌∙◌, subst}
 use Rattle.cc_ops.specs.Values as values
 use Rattle.cc_ops.specs.Machine.{Address}
 use Rattle.cc_core.specs.Names.{Name, Value}

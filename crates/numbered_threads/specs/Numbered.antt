@@ -23,7 +23,7 @@ pub record Stands (p : Program) (code : Code) (naming : Naming) (c : Thread Addr
   pub same : SameThread (Told naming) c named
   pub follows : Same p code t named
 
-abbrev pub IsSilent : Move Address → Type 0
+abbrev pub IsSilent : {N : Type 0} → Move N → Type 0
 IsSilent (Silent c) = Unit {0}
 IsSilent (Does n q j) = ⊥
 IsSilent (Ends v) = ⊥

@@ -8,9 +8,12 @@ ghost use Rattle.cc_core.specs.Names.{Name};
 ghost use Rattle.cc_core.specs.Core.{Term, Starts, Program};
 ghost use Rattle.cc_core.specs.Next.{next, entered};
 ghost use Rattle.cc_code.specs.Code.{Code, Thread, Runs, Starting, Silent, enter_at, move};
+ghost use Rattle.cc_code.specs.Settles.{Settles};
+ghost use Rattle.cc_code.specs.Valid.{IsValid};
 ghost use Rattle.cc_code.specs.Agrees.{ProgramStands};
 ghost use Rattle.code_names.specs.Same.{Told, SameValue, SameValues};
 ghost use Rattle.numbered_threads.specs.Numbered.{Naming, IsLater, Stands, IsSilent, MovesAlike};
+ghost use Rattle.numbered_threads.specs.Quiet.{quiet_end};
 
 /// Where the functions of a program stand in the code, an entered function and a thread whose first step is a call stand for those of
 /// the source. Silent moves keep it. A thread that stands for one of the source, and whose next move is not silent, ends where that
@@ -32,4 +35,16 @@ pub fn numbered_threads_follow()
     ensures moves { (p : Program) (code : Code) (before after : Naming) → IsLater before after
         → (c : Thread Address) (t : Term) → Stands p code before c t → ¬ IsSilent (move code c)
         → MovesAlike p code before after (next p t) (move code c) }
+{}
+
+/// Silent moves come to an end where silent instructions do, as they do in valid code and in each layout. A thread at that end makes no
+/// silent move; it stands for what the thread stood for; and a silent move on the way changes nothing of it.
+pub fn silent_moves_end()
+    ensures valid { (code : Code) → IsValid code → (b : ℕ) → Settles code b }
+    ensures loud { (code : Code) → ((b : ℕ) → Settles code b) → (c : Thread Address) → ¬ IsSilent (move code (quiet_end code c)) }
+    ensures goes { (code : Code) → ((b : ℕ) → Settles code b) → (c d : Thread Address) → move code c ≡ Silent d
+        → quiet_end code c ≡ quiet_end code d }
+    ensures stays { (code : Code) (c : Thread Address) → ¬ IsSilent (move code c) → quiet_end code c ≡ c }
+    ensures quiet { (p : Program) (code : Code) (naming : Naming) (c : Thread Address) (t : Term) → Stands p code naming c t
+        → Stands p code naming (quiet_end code c) t }
 {}
