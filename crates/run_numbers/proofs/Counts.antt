@@ -1,5 +1,5 @@
 -- As many numbers are given on a processor as threads were made there.
-use Rattle.std.proofs.Common.{◌≡◌, ◌≢◌, ⊎_elim, ℕ, ◌+◌, List, [], ◌∷◌, ◌++◌, length, refl, sym, ap, ◌∙◌, subst, arith}
+use Rattle.std.proofs.Common.{◌≡◌, ◌≢◌, ⊎_elim, ℕ, ◌+◌, List, [], ◌∷◌, ◌++◌, length, sym, ap, ◌∙◌, subst}
 use Rattle.std.specs.Prelude.{ℤ}
 use Rattle.std.specs.FinMap as fin
 use Rattle.std.proofs.lemmas.List.{length_push}
@@ -11,7 +11,7 @@ use Rattle.cc_core.specs.Steps.{change, start}
 use Rattle.cc_core.proofs.Maps.{cases_name, count-added_same, count-added_other}
 use Rattle.run_numbers.specs.RunNumbers.{IsNumbered, begins, goes_on}
 use Rattle.run_numbers.proofs.Lists.{listed_same, listed_other, listed_empty}
-use Rattle.run_numbers.proofs.Changes.{IsMet, IsJoined, IsNumberedStep, Met, Joined, numbered_step}
+use Rattle.run_numbers.proofs.Changes.{IsNumberedStep, Met, Joined, numbered_step}
 
 abbrev Counted : Map (List Name) → Map ℕ → Type 0
 Counted lists counts = (q : Name) → length (listed lists q) ≡ count counts q

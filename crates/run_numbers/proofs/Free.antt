@@ -1,7 +1,6 @@
 -- The names of what a step makes are free, one after another.
-use Rattle.std.proofs.Common.{◌≡◌, ◌≢◌, ◌⊎◌, inl, inr, ⊎_elim, ℕ, zero, suc, ◌+◌, ◌<◌, ◌≤◌, List, [], ◌∷◌, ◌++◌, length, drop, Option, Some, None, refl, sym, ap, ◌∙◌, arith}
+use Rattle.std.proofs.Common.{◌≡◌, ◌≢◌, ◌⊎◌, inl, inr, ⊎_elim, ℕ, suc, ◌≤◌, List, [], ◌∷◌, length, drop, Option, Some, None, refl, sym, ap, ◌∙◌, arith}
 use Rattle.std.specs.FinMap as fin
-use Rattle.cc_ops.specs.Values as values
 use Rattle.cc_ops.specs.Values.{Void, Int, Null, Ptr, Result, Gives, Fails}
 use Rattle.cc_ops.specs.declared.kind.Kind.{Kind}
 use Rattle.cc_core.specs.Names.{Name, name_cmp, Map, Value, Cell, puts}
@@ -10,11 +9,11 @@ use Rattle.cc_core.specs.Asks.{Ask, Reads, Writes, Copies, Indexes, Shifts, Comp
 use Rattle.cc_core.specs.Asks.{ForksAll, ForksOne, Joins, Spawns, Prints, Calls, Casts, NewProcessor}
 use Rattle.cc_core.specs.Config.{Thread, State, Object, put_cells, write_value, write_all}
 use Rattle.cc_core.specs.Effects.{effect, parameters}
-use Rattle.cc_core.specs.Numbers.{listed, listing, list_threads, list_objects}
+use Rattle.cc_core.specs.Numbers.{listing, list_threads, list_objects}
 use Rattle.cc_core.specs.Steps.{settle, settle_all, new_threads}
 use Rattle.cc_core.proofs.Maps.{cases_name, get_same, get_other}
 use Rattle.cc_core.proofs.Fresh.{head_of, writes_none}
-use Rattle.run_numbers.specs.RunNumbers.{IsListed, AreNumbered, NumbersStay}
+use Rattle.run_numbers.specs.RunNumbers.{AreNumbered, NumbersStay}
 use Rattle.run_numbers.proofs.Lists.{one_more, same_names, listing_keeps}
 
 module _ {X : Type 0} where
@@ -122,14 +121,14 @@ write_some m (Int n) v q a h = (a, h)
 write_some m Null v q a h = (a, h)
 write_some m (Ptr o x) v q a h = put_some m o q a (fin.get m o) _ h
 
-writes_some : (ws : List (Value × Value)) (m : Map Object) (q : Name) (a : Object) → fin.get m q ≡ Some a
+pub writes_some : (ws : List (Value × Value)) (m : Map Object) (q : Name) (a : Object) → fin.get m q ≡ Some a
     → (b : Object) × (fin.get (write_all m ws) q ≡ Some b)
 writes_some [] m q a h = (a, h)
 writes_some (w ∷ ws) m q a h =
     let one = write_some m w.0 w.1 q a h in
     writes_some ws (write_value m w.0 w.1) q one.0 one.1
 
-none_or_some : {X : Type 0} (o : Option X) → (o ≡ None) ⊎ ((a : X) × (o ≡ Some a))
+pub none_or_some : {X : Type 0} (o : Option X) → (o ≡ None) ⊎ ((a : X) × (o ≡ Some a))
 none_or_some None = inl refl
 none_or_some (Some a) = inr (a, refl)
 

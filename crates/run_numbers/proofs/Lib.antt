@@ -4,3 +4,5 @@ pub mod Free
 pub mod Numbers
 pub mod Counts
 pub mod Homes
+pub mod Processors
+pub mod Slots

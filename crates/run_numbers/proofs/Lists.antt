@@ -8,7 +8,7 @@ use Rattle.cc_core.proofs.Maps.{cases_name, get_same, get_other}
 use Rattle.run_numbers.specs.RunNumbers.{IsListed, AreNumbered, NumbersStay}
 
 module _ {A : Type 0} where
-  pushed_case : (xs : List A) (y x : A) (k : ℕ) → slice_get (xs ++ y ∷ []) k ≡ Some x → (slice_get xs k ≡ Some x) ⊎ ((k ≡ length xs) × (x ≡ y))
+  pub pushed_case : (xs : List A) (y x : A) (k : ℕ) → slice_get (xs ++ y ∷ []) k ≡ Some x → (slice_get xs k ≡ Some x) ⊎ ((k ≡ length xs) × (x ≡ y))
   pushed_case [] y x zero h = let e : x ≡ y = cc in inr (refl, e)
   pushed_case [] y x (suc k) h = let f : None ≡ Some x = h in cc
   pushed_case (z ∷ xs) y x zero h = inl h
@@ -17,16 +17,16 @@ module _ {A : Type 0} where
       (λ (b : (k ≡ length xs) × (x ≡ y)). inr (ap suc b.0, b.1))
       (pushed_case xs y x k h)
 
-  pushed_old : (xs ys : List A) (x : A) (k : ℕ) → slice_get xs k ≡ Some x → slice_get (xs ++ ys) k ≡ Some x
+  pub pushed_old : (xs ys : List A) (x : A) (k : ℕ) → slice_get xs k ≡ Some x → slice_get (xs ++ ys) k ≡ Some x
   pushed_old [] ys x k h = let f : None ≡ Some x = h in cc
   pushed_old (z ∷ xs) ys x zero h = h
   pushed_old (z ∷ xs) ys x (suc k) h = pushed_old xs ys x k h
 
-  pushed_new : (xs : List A) (y : A) → slice_get (xs ++ y ∷ []) (length xs) ≡ Some y
+  pub pushed_new : (xs : List A) (y : A) → slice_get (xs ++ y ∷ []) (length xs) ≡ Some y
   pushed_new [] y = refl
   pushed_new (z ∷ xs) y = pushed_new xs y
 
-abbrev names_in : Option (List Name) → List Name
+abbrev pub names_in : Option (List Name) → List Name
 names_in o = elim o [ None ↦ [] | Some ts ↦ ts ]
 
 pub listed_same : (lists : Map (List Name)) (q x : Name) → listed (listing lists q x) q ≡ listed lists q ++ x ∷ []

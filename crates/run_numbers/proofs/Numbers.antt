@@ -1,14 +1,14 @@
 -- A run numbers each thread and each object once.
-use Rattle.std.proofs.Common.{◌≡◌, ℕ, ◌≤◌, List, [], ◌∷◌, ◌++◌, Option, Some, None, refl, sym, ap, ◌∙◌, subst, arith}
+use Rattle.std.proofs.Common.{◌≡◌, ℕ, ◌≤◌, List, [], ◌∷◌, ◌++◌, None, refl, sym, ◌∙◌, subst, arith}
 use Rattle.std.specs.Prelude.{ℤ}
 use Rattle.std.specs.FinMap as fin
-use Rattle.cc_core.specs.Names.{Name, name_cmp, Map, Value, puts}
+use Rattle.cc_core.specs.Names.{Name, name_cmp, Map}
 use Rattle.cc_core.specs.Core.{Program, function, shapes}
-use Rattle.cc_core.specs.Config.{Config, Thread, State, Live, Object, write_all}
-use Rattle.cc_core.specs.Effects.{effect, parameters, start_home, first_objects, answer}
+use Rattle.cc_core.specs.Config.{Config, State, Live, Object, write_all}
+use Rattle.cc_core.specs.Effects.{parameters}
 use Rattle.cc_core.specs.Laws.{IsReached, NamesAreFree}
-use Rattle.cc_core.specs.Numbers.{Numbers, listed, listing, list_threads, list_objects, first_numbers, numbers_step}
-use Rattle.cc_core.specs.Steps.{Change, Moves, settle, settle_all, change, apply, step, start, ints, Run}
+use Rattle.cc_core.specs.Numbers.{Numbers, listing, list_threads, list_objects, first_numbers, numbers_step}
+use Rattle.cc_core.specs.Steps.{Change, Moves, settle, change, apply, step, start, ints}
 use Rattle.cc_core.proofs.Maps.{get_other}
 use Rattle.cc_core.proofs.Fresh.{not_longer, writes_none, free_reached}
 use Rattle.cc_core.proofs.StepLaws.{run_joined}
