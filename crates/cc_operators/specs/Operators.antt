@@ -72,11 +72,11 @@ dereferenced cx t = decay cx t >>= led cx
 
 -- ---- &
 
--- the rule that `&` breaks: it takes an int that is a variable or an element; a member is neither, and what `*p` stands for is none
+-- the rule that `&` breaks: it takes an int that is a variable, or an element of one or of what a pointer leads to. A member's address is not
+-- taken, nor that of an element of one: a pointer there could be moved on to the members behind it. What `*p` stands for is none of these
 abbrev pub address_rule_by : Root → (is_element : Bool) → Option StaticRule
 address_rule_by (root.Variable part) is_element = None
-address_rule_by root.Member true = None
-address_rule_by root.Member false = Some r.MemberAddress
+address_rule_by root.Member is_element = Some r.MemberAddress
 address_rule_by root.Pointer true = None
 address_rule_by root.Pointer false = Some r.BadType
 
@@ -84,15 +84,8 @@ abbrev pub address_rule : Ty → Root → (is_element : Bool) → Option StaticR
 address_rule ty.Int root is_element = address_rule_by root is_element
 address_rule _ root is_element = Some r.BadType
 
--- whether a pointer to such a place, moved on, leads to sync ints alone: one to an element of a member leads to the members behind it,
--- which may be plain
-abbrev pub leads_to_sync_alone : Root → (sync : Bool) → Bool
-leads_to_sync_alone (root.Variable part) sync = sync
-leads_to_sync_alone root.Member sync = false
-leads_to_sync_alone root.Pointer sync = sync
-
 unfoldable pub address_of : Context → Place → Elab Typed
-address_of cx p = share_address (leads_to_sync_alone p.root p.sync) cx >> pure (typed.Value (pointer_to p))
+address_of cx p = share_address p.sync cx >> pure (typed.Value (pointer_to p))
 
 abbrev pub address_unless : Option StaticRule → Context → Place → Elab Typed
 address_unless (Some rule) cx p = broken cx rule

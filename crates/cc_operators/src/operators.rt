@@ -57,9 +57,8 @@ fn root_address_rule(root: Root, is_element: bool) -> Option<StaticRule>
     ensures { result ≡ spec.address_rule_by root is_element }
 {
     match (root, is_element) {
-        (Root::Variable(_), _) => None,
-        (_, true) => None,
-        (Root::Member, false) => Some(StaticRule::MemberAddress),
+        (Root::Variable(_), _) | (Root::Pointer, true) => None,
+        (Root::Member, _) => Some(StaticRule::MemberAddress),
         (Root::Pointer, false) => Some(StaticRule::BadType),
     }
 }
@@ -201,22 +200,11 @@ fn dereferenced(
     led(scope, state, value)
 }
 
-/// Whether a pointer to such a place, moved on, leads to sync ints alone. One to an element of a member leads to the members behind it.
-fn leads_to_sync_alone(root: Root, sync: bool) -> bool
-    ensures { result ≡ spec.leads_to_sync_alone root sync }
-{
-    match root {
-        Root::Variable(_) | Root::Pointer => sync,
-        Root::Member => false,
-    }
-}
-
 #[tactic(auto, unfolding(crate::specs::Operators::address_of))]
 fn address_of(scope: &Scope<'_>, state: &mut State, place: Place) -> Result<Typed, AllocError>
     ensures { Gives (spec.address_of (context scope.now) place state.old) result state.new }
 {
-    let sync = leads_to_sync_alone(place.root, place.sync);
-    scope.share_address(state, sync)?;
+    scope.share_address(state, place.sync)?;
     Ok(Typed::Value(place.pointer()))
 }
 

@@ -31,7 +31,6 @@ use Rattle.cc_scopes.specs.declared.types.Ty.TheVariants as ty
 use Rattle.cc_scopes.specs.Elab.{Elab}
 use Rattle.cc_scopes.specs.Meaning.{constant_value}
 use Rattle.cc_scopes.specs.Scope.{Context}
-use Rattle.cc_operators.specs.Operators.{leads_to_sync_alone}
 use Rattle.cc_shared.proofs.TypesOf.{target_type, value_type, IsCellType, IsResultType, AllCellTypes, FieldFits, MemberFits}
 use Rattle.cc_shared.proofs.Runs.{IsThere, Anything, Runs}
 
@@ -175,7 +174,7 @@ module _ (y : Types) (main : ℕ) (here : FunctionTypes) where
     MeaningFits (m.Function f) = Unit {0}
     MeaningFits m.Nothing = Unit {0}
 
-  -- ---- places. A plain variable of the own part may be written, and an address that leads to sync cells alone be handed on
+  -- ---- places. A plain variable of the own part may be written, and the address of a sync cell that is no member be handed on
 
   abbrev pub IsOwnVariable : List ℕ → Term → Type 0
   IsOwnVariable own (Variable k) = IsAmong k own
@@ -193,7 +192,7 @@ module _ (y : Types) (main : ℕ) (here : FunctionTypes) where
       pub cell : IsCell y sort p.sync (value_type p.ty)
       pub known : IsCellType p.ty
       pub owned : OwnBy p.root p.sync (value_type p.ty) sort (term_of p.address)
-      pub lends : leads_to_sync_alone p.root p.sync ≡ true → sort ≡ Valued (AnAddress (Cells true (value_type p.ty)))
+      pub lends : p.root ≢ root.Member → p.sync ≡ true → sort ≡ Valued (AnAddress (Cells true (value_type p.ty)))
 
     -- an array of n cells that is a member
     pub record MemberArray (p : Place) (n : ℕ) : Type 0 where

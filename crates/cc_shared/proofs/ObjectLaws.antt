@@ -15,7 +15,6 @@ use Rattle.cc_scopes.specs.declared.typed.Root.{Root}
 use Rattle.cc_names.specs.Table.{Name}
 use Rattle.cc_names.specs.declared.declarations.ClassId.{ClassId}
 use Rattle.cc_names.specs.declared.rule.StaticRule.{StaticRule}
-use Rattle.cc_operators.specs.Operators.{leads_to_sync_alone}
 use Rattle.cc_typing.specs.declared.calls.Args.{Args}
 use Rattle.cc_names.specs.declared.declarations.FunId.{FunId}
 use Rattle.cc_scopes.specs.declared.meaning.Meaning.{Meaning}
@@ -95,7 +94,7 @@ module _ (y : Types) (main : ℕ) (here : FunctionTypes) (F : Type 0) (grown ds 
           λ q.
               subst (λ t. IsOwnPlace own t) (sym (index_is p.address n i)) (own_element y main here own (term_of p.address) n (term_of i) (f.owned q)),
         ));
-    lends = λ alone. sync_sort p.sync (value_type p.ty) (subst (λ r. leads_to_sync_alone r p.sync ≡ true) is alone);
+    lends = λ outside shared. sync_sort p.sync (value_type p.ty) shared;
   }
 
   -- of one that is a member
@@ -109,7 +108,7 @@ module _ (y : Types) (main : ℕ) (here : FunctionTypes) (F : Type 0) (grown ds 
     known = f.known;
     owned = subst (λ r. OwnBy y main here part own r p.sync (value_type p.ty) (MemberCell p.sync (value_type p.ty)) (term_of (e.Index p.address n i)))
         (sym is) tt;
-    lends = λ alone. absurd (true≢false (sym (subst (λ r. leads_to_sync_alone r p.sync ≡ true) is alone)));
+    lends = λ outside. absurd (outside is);
   }
 
   element_by : (r : Root) (p : Place) (n : ℕ) (i : Expression) → p.root ≡ r → ArrayBy y main here part own r p n → Values y main here i AnInt
@@ -136,7 +135,7 @@ module _ (y : Types) (main : ℕ) (here : FunctionTypes) (F : Type 0) (grown ds 
     cell = refl;
     known = tt;
     owned = tt;
-    lends = λ shared. ap (λ b. Valued (AnAddress (Cells b AnInt))) shared;
+    lends = λ outside shared. ap (λ b. Valued (AnAddress (Cells b AnInt))) shared;
   }
 
   indexed_target_runs : (t : Target) (remote : Bool) (a i : Expression)

@@ -1,5 +1,5 @@
 -- Operators, and the addresses of places.
-use Rattle.std.proofs.Common.{◌≡◌, ℕ, ℤ, Bool, true, false, cond, List, Option, Some, None, refl, sym, ap, subst, ◌∙◌}
+use Rattle.std.proofs.Common.{◌≡◌, ◌≢◌, ℕ, ℤ, Bool, true, false, cond, List, Option, Some, None, refl, sym, ap, subst, ◌∙◌}
 use Rattle.std.specs.Prelude.{◌&&◌}
 use Rattle.cc_core.specs.declared.expression.Expression.{Expression}
 use Rattle.cc_core.specs.Types.{ValueType, NoValue, AnInt, AnAddress, Cells, FunctionTypes, Types}
@@ -33,7 +33,7 @@ use Rattle.cc_scopes.specs.Typed.{int, not_void_by, decay, pointer_to, object_po
 use Rattle.cc_operators.specs.Folding.{negated_value, computed}
 use Rattle.cc_operators.specs.Operators as operators
 use Rattle.cc_operators.specs.Operators.{unary_term, operated_by, operated, negated, int_at, object_at, at_target, led_by, led, dereferenced}
-use Rattle.cc_operators.specs.Operators.{address_rule, leads_to_sync_alone, address_of, address_unless, place_address, object_address, value_address, address, unary}
+use Rattle.cc_operators.specs.Operators.{address_rule, address_of, address_unless, place_address, object_address, value_address, address, unary}
 use Rattle.cc_operators.specs.Operators.{arithmetic, joined_term, joined_operands, joined_values, joined_constant, joined_numbers, joined_as, joined}
 use Rattle.cc_shared.proofs.Runs.{IsThere, given, bind, after, done}
 use Rattle.cc_shared.proofs.Forms.{unary_values, binary_values, and_values, or_values}
@@ -148,7 +148,7 @@ module _ (y : Types) (main : ℕ) (here : FunctionTypes) (F : Type 0) (grown ds 
     cell = refl;
     known = tt;
     owned = tt;
-    lends = λ is. ap (λ b. Valued (AnAddress (Cells b AnInt))) is;
+    lends = λ outside is. ap (λ b. Valued (AnAddress (Cells b AnInt))) is;
   }
 
   at_target_fits : (t : Target) (remote : Bool) (x : Expression) → OperandBy y main here (ty.Pointer t remote) x
@@ -174,11 +174,6 @@ module _ (y : Types) (main : ℕ) (here : FunctionTypes) (F : Type 0) (grown ds 
 
   -- ---- &
 
-  of_sync : (r : Root) (sync : Bool) → leads_to_sync_alone r sync ≡ true → sync ≡ true
-  of_sync (root.Variable k) sync is = is
-  of_sync root.Member sync is = absurd (true≢false (sym is))
-  of_sync root.Pointer sync is = is
-
   int_of_rule : (t : Ty) (r : Root) (is_element : Bool) → address_rule t r is_element ≡ None → t ≡ ty.Int
   int_of_rule ty.Int r b none = refl
   int_of_rule ty.Null r b none = absurd (none-some _ (sym none))
@@ -186,18 +181,24 @@ module _ (y : Types) (main : ℕ) (here : FunctionTypes) (F : Type 0) (grown ds 
   int_of_rule (ty.Pointer to remote) r b none = absurd (none-some _ (sym none))
   int_of_rule ty.Unknown r b none = absurd (none-some _ (sym none))
 
-  -- a sync int that may be pointed to: a variable, or an element that a pointer leads to
-  address_fits : (p : Place) → address_rule p.ty p.root p.is_element ≡ None → leads_to_sync_alone p.root p.sync ≡ true → PlaceFits y main here part own p
+  -- what `&` is taken of is no member: of one it breaks a rule
+  outside_of_rule : (t : Ty) (r : Root) (is_element : Bool) → address_rule t r is_element ≡ None → r ≢ root.Member
+  outside_of_rule t r b none member =
+      let int : t ≡ ty.Int = int_of_rule t r b none in
+      none-some _ (sym none ∙ ap (λ u. address_rule u r b) int ∙ ap (λ q. address_rule ty.Int q b) member)
+
+  -- a sync int that may be pointed to: a variable, or an element of one or of what a pointer leads to
+  address_fits : (p : Place) → address_rule p.ty p.root p.is_element ≡ None → p.sync ≡ true → PlaceFits y main here part own p
       → OperandFits y main here (pointer_to p)
   address_fits p none is f =
       let int : value_type p.ty ≡ AnInt = ap value_type (int_of_rule p.ty p.root p.is_element none) in
-      sync_pointer y main here F grown ds part own ls cx p.sync p.remote p.address (of_sync p.root p.sync is)
-      (subst (λ q. Sorted y main here p.address q) (f.lends is ∙ ap (λ u. Valued (AnAddress (Cells true u))) int) f.sorted)
+      sync_pointer y main here F grown ds part own ls cx p.sync p.remote p.address is
+      (subst (λ q. Sorted y main here p.address q) (f.lends (outside_of_rule p.ty p.root p.is_element none) is ∙ ap (λ u. Valued (AnAddress (Cells true u))) int) f.sorted)
 
   address_of_runs : (p : Place) → address_rule p.ty p.root p.is_element ≡ None
       → Reads F grown ds part own ls (PlaceFits y main here part own p) (address_of cx p) (TypedFits y main here part own)
   unfolding address_of
-  address_of_runs p none = after (share_address_runs y main here F grown ds part own ls cx (leads_to_sync_alone p.root p.sync)) (λ u x. x)
+  address_of_runs p none = after (share_address_runs y main here F grown ds part own ls cx p.sync) (λ u x. x)
       (done (typed.Value (pointer_to p)) (λ x. address_fits p none x.1 x.0))
 
   address_unless_runs : (r : Option StaticRule) (p : Place) → address_rule p.ty p.root p.is_element ≡ r

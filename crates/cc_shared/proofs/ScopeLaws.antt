@@ -136,7 +136,7 @@ module _ (y : Types) (main : ℕ) (here : FunctionTypes) (part : ℕ) (own : Lis
     cell = f.1;
     known = known;
     owned = tt;
-    lends = λ is. absurd (true≢false (sym is));
+    lends = λ outside. absurd (outside refl);
   }
 
   field_by : (s : Shape) (c o : ℕ) (x : Expression) (d : Declared) (remote : Bool) → IsCellType d.ty → FieldBy y c s d o
@@ -188,7 +188,7 @@ module _ (y : Types) (main : ℕ) (here : FunctionTypes) (part : ℕ) (own : Lis
       cell = cell_sort d.sync (value_type d.ty);
       known = known;
       owned = λ plain. (own_sort d.sync (value_type d.ty) plain, λ q. subst (λ t. IsOwnPlace own t) (sym (variable_is k)) (among q));
-      lends = λ shared. lent_sort d.sync (value_type d.ty) shared;
+      lends = λ outside shared. lent_sort d.sync (value_type d.ty) shared;
     }
     variable_by (shape.Array n) is known = record {
       sorted = address _ (ap (λ z. target_by z d) is);

@@ -26,7 +26,7 @@ use Rattle.cc_scopes.specs.Typed.{int, pointer_to, object_pointer}
 use Rattle.cc_operators.specs.Folding.{negated_value, computed}
 use Rattle.cc_operators.specs.Operators as operators
 use Rattle.cc_operators.specs.Operators.{unary_term, operated_by, operated, negated, int_at, object_at, at_target, led_by, led, dereferenced}
-use Rattle.cc_operators.specs.Operators.{address_rule, leads_to_sync_alone, address_of, address_unless, place_address, object_address, value_address, address, unary}
+use Rattle.cc_operators.specs.Operators.{address_rule, address_of, address_unless, place_address, object_address, value_address, address, unary}
 use Rattle.cc_operators.specs.Operators.{arithmetic, joined_term, joined_operands, joined_values, joined_constant, joined_numbers, joined_as, joined}
 use Rattle.cc_source.proofs.Runs.{IfThere, given, bind, next, done}
 use Rattle.cc_source.proofs.FitLaws.{unary_fits, binary_fits, and_fits, or_fits}
@@ -87,7 +87,7 @@ module _ (h : Shapes) (n : ℕ) (cx : Context) where
 
   address_of_runs : (p : Place) → Reads n (ExpressionFits h n p.address) (address_of cx p) (TypedFits h n)
   unfolding address_of
-  address_of_runs p = next (share_address_runs h n cx (leads_to_sync_alone p.root p.sync)) (done (typed.Value (pointer_to p)) (λ x. x))
+  address_of_runs p = next (share_address_runs h n cx p.sync) (done (typed.Value (pointer_to p)) (λ x. x))
 
   address_unless_runs : (r : Option StaticRule) (p : Place) → Reads n (ExpressionFits h n p.address) (address_unless r cx p) (TypedFits h n)
   address_unless_runs (Some rule) p = broken_runs h n cx rule
