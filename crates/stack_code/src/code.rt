@@ -1,4 +1,4 @@
-ghost use Rattle.std.specs.Prelude.{◌≡◌, ◌<◌, ◌≤◌, length};
+ghost use Rattle.std.specs.Prelude.{◌≡◌, ◌<◌, ◌≤◌, ◌^◌, length};
 ghost use Rattle.cc_ops.specs.Shapes.{shape_of};
 ghost use Rattle.cc_core.specs.Core.{function_shape, class_shape};
 ghost use Rattle.cc_code.specs.Code.{entry};
@@ -61,16 +61,18 @@ impl Code {
         self.draft.len()
     }
 
-    /// The number of functions.
+    /// The number of functions. Numbers of 16 bits name them.
     pub fn functions(&self) -> u32
-        ensures { result ≡ length (code_of self.now).shapes.functions }
+        ensures count { result ≡ length (code_of self.now).shapes.functions }
+        ensures few { result ≤ 2 ^ 16 }
     {
         self.draft.functions.len() as u32
     }
 
-    /// The number of classes.
+    /// The number of classes. Numbers of 16 bits name them.
     pub fn classes(&self) -> u32
-        ensures { result ≡ length (code_of self.now).shapes.classes }
+        ensures count { result ≡ length (code_of self.now).shapes.classes }
+        ensures few { result ≤ 2 ^ 16 }
     {
         self.draft.classes.len() as u32
     }
