@@ -1,0 +1,23 @@
+use Rattle.std.proofs.Common.{refl, ap, ◌∙◌, arith}
+use Rattle.walk_objects.specs.Changes.{with_held, with_thing}
+use Rattle.walk_objects.specs.contracts.objects.Objects.{the_view}
+use Rattle.walk_objects.proofs.Changed.{set_changed, changed_past}
+use Rattle.numbered_runs.specs.Machine.{changed}
+use Rattle.walk_objects.proofs.objects.Objects.set_held.Goals as goal
+use Rattle.walk_objects.proofs.objects.Objects.set_held.Goals.{in-Some, in_default}
+
+pub returns : goal.returns
+returns c =
+    let shelves = c.self.inside.shelves.items in
+    let k = c.args.at.processor in
+    let f = with_thing c.args.at.object (with_held c.args.held) in
+    elim c.match-get_mut.branch [
+      | in-Some w ↦
+          ap the_view w.self-inside-is
+          ∙ set_changed f shelves k w.in-Some.shelf.now w.set_held.new.self (omega (arith, w.in-Some.ensures.variant.0 refl)) w.in-Some.ensures.value w.set_held.ensures
+          ∙ ap (λ v. changed v k f) c.self.view_is
+      | in_default w ↦
+          ap the_view w.self-inside-is
+          ∙ changed_past f shelves k (grind (arith, w.in_default.ensures.variant))
+          ∙ ap (λ v. changed v k f) c.self.view_is
+    ]

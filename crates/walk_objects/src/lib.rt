@@ -1,0 +1,9 @@
+//! The objects of a run by their numbers.
+#![tactic(auto)]
+
+mod objects;
+
+pub use objects::Objects;
+
+#[cfg(test)]
+mod tests;
