@@ -1,0 +1,12 @@
+pub mod Places
+pub mod StepLaws
+pub mod Outcomes
+pub mod Kept
+pub mod GoLaws
+pub mod LoopLaws
+pub mod HolderLaws
+pub mod MoveLaws
+pub mod OrderLaws
+pub mod PostLaws
+pub mod MainThere
+pub mod StartLaws

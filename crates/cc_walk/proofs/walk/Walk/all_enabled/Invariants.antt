@@ -1,0 +1,10 @@
+use Rattle.cc_walk.specs.Enabled.{IsMoveable}
+use Rattle.cc_walk.specs.Views.{machine_of}
+use Rattle.cc_walk.proofs.OrderLaws.{thread_no, AreBefore}
+use Rattle.cc_walk.proofs.walk.Walk.all_enabled.Given as goal
+
+abbrev pub invariant-loop-thread : goal.invariant-loop-thread
+invariant-loop-thread l = AreBefore (IsMoveable (machine_of l.self)) (thread_no l.processor l.thread) l.enabled
+
+abbrev pub invariant-loop-processor : goal.invariant-loop-processor
+invariant-loop-processor l = AreBefore (IsMoveable (machine_of l.self)) (thread_no l.processor 0) l.enabled

@@ -1,0 +1,10 @@
+pub mod Views
+pub mod Stops
+pub mod Answered
+pub mod Asker
+pub mod Verdicts
+pub mod Asking
+pub mod Answers
+pub mod Enabled
+pub mod Posted
+pub mod Begins

@@ -1,0 +1,8 @@
+-- Whether an ask waits.
+use Rattle.std.specs.Prelude.{Bool, true, false}
+use Rattle.numbered_runs.specs.Needs.{Verdict, Go, Hold, Bad}
+
+abbrev pub is_hold : Verdict → Bool
+is_hold (Go vs) = false
+is_hold Hold = true
+is_hold (Bad kind) = false

@@ -1,0 +1,103 @@
+ghost use Rattle.std.specs.Prelude.{◌≡◌, IfOk};
+ghost use Rattle.cc_core.specs.Core.{Program};
+ghost use Rattle.cc_core.specs.Config.{Config};
+ghost use Rattle.cc_core.specs.Numbers.{Numbers};
+ghost use Rattle.cc_core.specs.Steps as steps;
+ghost use Rattle.numbered_runs.specs.Stands.{Stands};
+ghost use Rattle.numbered_runs.specs.Steps.{step};
+ghost use Rattle.cc_walk.specs.Enabled.{may_move, IsMoveable, CanMove, IsFirst, AreAll, IsMainValue};
+ghost use Rattle.cc_walk.specs.Views.{machine_of};
+
+use crate::answer::Asker;
+use crate::walk::Walk;
+use ccpp_edge::List;
+use code_thread::Look;
+use global_ptr::Value;
+use numbered_runs::ThreadNo;
+use std::alloc::AllocError;
+
+impl Walk {
+    /// Whether a thread can move: its next move is a step or a fault.
+    fn can_move(&self, t: ThreadNo) -> bool
+        ensures { result ≡ may_move (step (machine_of self.now) t) }
+    {
+        let Some(live) = self.table.live(t) else {
+            return false;
+        };
+        let Look::Asks(_, ask) = live.thread.look(&self.code) else {
+            return false;
+        };
+        if let Some(kid) = live.asked {
+            return self.table.ended(kid).is_some();
+        }
+        let asker = Asker {
+            alloc: self.alloc,
+            code: &self.code,
+            table: &self.table,
+            live,
+            processor: t.processor,
+        };
+        !asker.waits(&self.objects, &ask)
+    }
+
+    /// The first thread that can move, by processor and then number, and `None` exactly where none can.
+    pub fn enabled(&self) -> Option<ThreadNo>
+        ensures first { IsFirst (IsMoveable (machine_of self.now)) result }
+        ensures follows { (p : Program) (s : Config) (n : Numbers) → Stands p (machine_of self.now) s n → IsFirst (CanMove p s n) result }
+    {
+        for processor in 0..self.table.processors() {
+            for thread in 0..self.table.made(processor) {
+                let t = ThreadNo { processor, thread };
+                if self.can_move(t) {
+                    return Some(t);
+                }
+            }
+        }
+        None
+    }
+
+    /// The threads that can move, by processor and then number.
+    pub fn all_enabled(&self) -> Result<List<ThreadNo>, AllocError>
+        ensures all { IfOk result (AreAll (IsMoveable (machine_of self.now))) }
+        ensures follows { (p : Program) (s : Config) (n : Numbers) → Stands p (machine_of self.now) s n → IfOk result (AreAll (CanMove p s n)) }
+    {
+        let mut enabled = List::new(self.alloc);
+        for processor in 0..self.table.processors() {
+            for thread in 0..self.table.made(processor) {
+                let t = ThreadNo { processor, thread };
+                if self.can_move(t) {
+                    enabled.push(t)?;
+                }
+            }
+        }
+        Ok(enabled)
+    }
+
+    /// How many threads have not ended.
+    pub fn threads_left(&self) -> u64
+        ensures { (p : Program) (s : Config) (n : Numbers) → Stands p (machine_of self.now) s n → result ≡ steps.threads_left s }
+    {
+        self.table.threads_left()
+    }
+
+    /// The int that `main` has ended with, and `None` exactly where it goes on, or has ended with no int.
+    pub fn main_value(&self) -> Option<i64>
+        ensures { (p : Program) (s : Config) (n : Numbers) → Stands p (machine_of self.now) s n → IsMainValue s result }
+    {
+        let main = ThreadNo {
+            processor: 0,
+            thread: 0,
+        };
+        match self.table.ended(main)? {
+            Value::Int(value) => Some(value),
+            _ => None,
+        }
+    }
+
+    /// What was printed.
+    pub fn output(&self) -> &[u8]
+        ensures { (p : Program) (s : Config) (n : Numbers) → Stands p (machine_of self.now) s n → result.now ≡ s.output }
+    {
+        self.output.as_slice()
+    }
+}
