@@ -15,6 +15,3 @@ mod rules;
 pub use conduct::Conduct;
 pub use rounds::may_block;
 pub use rules::note_atomic;
-
-#[cfg(test)]
-mod tests;

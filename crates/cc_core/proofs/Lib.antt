@@ -1,3 +1,4 @@
+pub mod NameLaws
 pub mod ViewLaws
 pub mod Maps
 pub mod StepLaws

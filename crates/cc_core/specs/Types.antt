@@ -110,7 +110,7 @@ abbrev pub MayWrite : Bool → List ℕ → Term → Type 0
 MayWrite true own place = Unit {0}
 MayWrite false own place = IsOwnPlace own place
 
--- the variables that a statement declares for those after_first it
+-- the variables that a statement declares for those after it
 abbrev pub declares : Stmt → List ℕ → List ℕ
 declares (AtLine line s) own = declares s own
 declares (Make k kind n) own = k ∷ own

@@ -11,8 +11,6 @@ mod next;
 mod number;
 mod piece;
 mod string;
-#[cfg(test)]
-mod tests;
 mod token;
 mod unescape;
 mod word;

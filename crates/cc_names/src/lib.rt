@@ -17,6 +17,3 @@ pub use broken::{Broken, TypeFault, least};
 pub use declarations::{ClassId, Entity, FunId, MemberId};
 pub use names::Names;
 pub use rule::{StaticLimit, StaticRule};
-
-#[cfg(test)]
-mod tests;

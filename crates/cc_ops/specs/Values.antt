@@ -100,7 +100,7 @@ moved (Int n) k = Null
 moved Null k = Null
 moved (Ptr o x) k = Ptr o (min (x + k) last_offset)
 
--- A remote operation sends an int where one is wanted, an address where one is wanted, and never void.
+-- A remote operation sends an int where one is wanted, and an address where one is wanted.
 -- A program that keeps the rules of types sends its values as they are.
 abbrev pub as_kind : {N : Type 0} → Kind → Value N → Value N
 as_kind IntK v = Int (int_of v)
@@ -112,6 +112,7 @@ abbrev pub as_kinds : {N : Type 0} → List Kind → List (Value N) → List (Va
 as_kinds [] vs = []
 as_kinds (kind ∷ kinds) vs = as_kind kind (first vs) ∷ as_kinds kinds (after_first vs)
 
+-- and, where it takes a value of any kind, never void
 abbrev pub no_void : {N : Type 0} → Value N → Value N
 no_void Void = Null
 no_void (Int n) = Int n

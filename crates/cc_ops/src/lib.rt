@@ -17,7 +17,4 @@ pub use cell::Cell;
 pub use kind::Kind;
 pub use operator::Op;
 pub use shape::{CellRun, ClassShape, FunShape};
-pub use value::{address_of, as_kind, int_of, is_zero, no_void, same_value, truth};
-
-#[cfg(test)]
-mod tests;
+pub use value::{address_of, as_kind, int_of, is_zero, no_void, same_value, truth, value_at};

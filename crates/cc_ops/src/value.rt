@@ -68,7 +68,7 @@ pub fn no_void(value: Value) -> Value
 }
 
 /// The value at a place, and void where there is none.
-pub(crate) fn value_at(values: &[Value], at: usize) -> Value
+pub fn value_at(values: &[Value], at: usize) -> Value
     ensures { value_of result ≡ get_or (map value_of values.now) at spec.Void }
 {
     values.get(at).copied().unwrap_or(Value::Void)

@@ -10,8 +10,6 @@ mod items;
 mod members;
 mod nodes;
 mod parser;
-#[cfg(test)]
-mod tests;
 
 pub use fault::ParseFault;
 pub use parser::{MAX_LEVELS, line_at, parse};

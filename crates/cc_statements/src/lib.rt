@@ -7,8 +7,6 @@
 
 mod headers;
 mod statements;
-#[cfg(test)]
-mod tests;
 
 pub use cc_simple_statements::expr_semicolon;
 pub use headers::int_name;

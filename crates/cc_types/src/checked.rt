@@ -175,9 +175,11 @@ impl Checked {
         }
     }
 
-    /// The rules of sharing that it breaks.
+    /// The rules of sharing that it breaks. It is spelled by some tokens, and well formed.
     pub fn shared(&self) -> &[Share]
-        ensures { result.now ≡ spec.rules_shared self.now }
+        ensures value { result.now ≡ spec.rules_shared self.now }
+        ensures spelled { IsSpelled self.now }
+        ensures well_formed { IsWellFormed self.now }
     {
         self.shared.as_slice()
     }

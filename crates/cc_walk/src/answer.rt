@@ -15,7 +15,7 @@ ghost use Rattle.cc_walk.specs.Answered.{IsAnswered};
 ghost use Rattle.cc_walk.specs.Asker.{machine_with, shapes_of, AnswersAsk, IsMet, remote_ask};
 ghost use Rattle.cc_walk.specs.Views.{runner_of};
 
-use crate::arguments::{after_first, first_of, value_at};
+use crate::arguments::{after_first, first_of};
 use crate::effect::{Effect, Entry, Found, Start};
 use crate::holders::{leave_innermost, note_held};
 use crate::limits::{MOST_CALLS, MOST_PROCESSORS, MOST_SLOTS, has_slots};

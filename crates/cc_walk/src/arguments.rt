@@ -1,15 +1,8 @@
-ghost use Rattle.std.specs.Prelude.{◌≡◌, map, get_or};
+ghost use Rattle.std.specs.Prelude.{◌≡◌, map};
 ghost use Rattle.cc_ops.specs.Values as values;
 ghost use Rattle.cc_ops.specs.Machine.{value_of};
 
 use global_ptr::Value;
-
-/// The value at a place, void where there is none.
-pub(crate) fn value_at(args: &[Value], at: usize) -> Value
-    ensures { value_of result ≡ get_or (map value_of args.now) at values.Void }
-{
-    args.get(at).copied().unwrap_or(Value::Void)
-}
 
 /// The first value, void where there is none.
 pub(crate) fn first_of(args: &[Value]) -> Value

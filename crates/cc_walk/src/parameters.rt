@@ -2,8 +2,7 @@ ghost use Rattle.std.specs.Prelude.{◌≡◌, map, drop, IfOk, OnOk};
 ghost use Rattle.cc_ops.specs.Machine.{value_of, cell_of};
 ghost use Rattle.numbered_runs.specs.Effects.{cells_with, parameters, put_things, addresses};
 
-use crate::arguments::value_at;
-use cc_ops::{Cell, Kind};
+use cc_ops::{Cell, Kind, value_at};
 use ccpp_edge::List;
 use global_ptr::Value;
 use std::alloc::{AllocError, Global};

@@ -3,9 +3,8 @@ ghost use Rattle.cc_ops.specs.Machine.{value_of};
 ghost use Rattle.cc_core.specs.View.{part_of};
 ghost use Rattle.numbered_runs.specs.Effects.{printed};
 
-use crate::arguments::value_at;
 use cc_core::PrintPart;
-use cc_ops::int_of;
+use cc_ops::{int_of, value_at};
 use ccpp_edge::Bytes;
 use global_ptr::Value;
 use std::alloc::{AllocError, Global};

@@ -3,8 +3,7 @@ ghost use Rattle.cc_ops.specs.Classes.{all_kinds};
 ghost use Rattle.cc_ops.specs.Values as values;
 ghost use Rattle.cc_ops.specs.Machine.{value_of};
 
-use crate::arguments::value_at;
-use cc_ops::{Kind, as_kind, no_void};
+use cc_ops::{Kind, as_kind, no_void, value_at};
 use ccpp_edge::List;
 use global_ptr::Value;
 use std::alloc::{AllocError, Global};

@@ -11,8 +11,6 @@ mod mem_sink;
 mod real;
 mod shelf;
 mod sink;
-#[cfg(test)]
-mod tests;
 mod text;
 
 pub use boxed::Boxed;

@@ -18,8 +18,6 @@ mod size;
 mod source;
 mod stack;
 mod status;
-#[cfg(test)]
-mod tests;
 mod word;
 
 pub use call::ccpp;

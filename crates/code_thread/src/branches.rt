@@ -8,7 +8,7 @@ ghost use Rattle.code_thread.specs.View.{operands_of, answer_of};
 use crate::frame::Frame;
 use crate::running::Running;
 use crate::thread::Thread;
-use crate::values::value_at;
+use cc_ops::value_at;
 use ccpp_edge::List;
 use global_ptr::Value;
 use stack_code::Instr;

@@ -17,6 +17,3 @@ pub use ask::{Ask, Look};
 pub use shapes::{class, function, is_atomic, parameters};
 pub use stack::Stack;
 pub use thread::Thread;
-
-#[cfg(test)]
-mod tests;

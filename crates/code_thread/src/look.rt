@@ -12,9 +12,8 @@ use crate::ask::{Ask, Look};
 use crate::frame::Frame;
 use crate::running::Running;
 use crate::taken::taken;
-use crate::values::value_at;
 use cc_core::How;
-use cc_ops::no_void;
+use cc_ops::{no_void, value_at};
 use global_ptr::Value;
 use stack_code::{Code, Instr};
 

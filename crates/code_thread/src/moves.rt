@@ -17,9 +17,8 @@ ghost use Rattle.code_thread.specs.View.{operands_of, running_of, acts, ended_or
 
 use crate::running::Running;
 use crate::taken::taken;
-use crate::values::value_at;
 use cc_core::Constant;
-use cc_ops::{is_zero, moved, truth};
+use cc_ops::{is_zero, moved, truth, value_at};
 use global_ptr::Value;
 use stack_code::{Code, Instr};
 use std::alloc::{AllocError, Global};

@@ -6,13 +6,6 @@ use ccpp_edge::List;
 use global_ptr::Value;
 use std::alloc::{AllocError, Global};
 
-/// The value at a place, and void where there is none.
-pub(crate) fn value_at(given: &[Value], at: usize) -> Value
-    ensures { value_of result ≡ get_or (map value_of given.now) at values.Void }
-{
-    given.get(at).copied().unwrap_or(Value::Void)
-}
-
 /// The address at a place, and null where there is none.
 pub(crate) fn address_at(given: &[Value], at: usize) -> Value
     ensures { value_of result ≡ get_or (map value_of given.now) at values.Null }

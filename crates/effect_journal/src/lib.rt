@@ -13,6 +13,3 @@ pub use entry::{Entry, FaultBy};
 pub use law::one_answer;
 pub use read::{JournalFault, read_journal};
 pub use write::{write_entry, write_header};
-
-#[cfg(test)]
-mod tests;

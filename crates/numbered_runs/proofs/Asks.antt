@@ -25,7 +25,8 @@ use Rattle.code_names.proofs.Values.{int_same, first_same, rest_same}
 use Rattle.numbered_threads.specs.Numbered.{Stands as Follows}
 use Rattle.numbered_threads.proofs.Numbered.{started_stands}
 use Rattle.run_numbers.proofs.Numbers.{reached}
-use Rattle.run_numbers.proofs.Processors.{told_same, told_itself, object_founds}
+use Rattle.cc_core.proofs.NameLaws.{told_same, told_itself}
+use Rattle.run_numbers.proofs.Processors.{object_founds}
 use Rattle.numbered_runs.specs.declared.number.ThreadNo.{ThreadNo}
 use Rattle.numbered_runs.specs.Machine.{Machine, Runner}
 use Rattle.numbered_runs.specs.Needs.{Values}

@@ -12,7 +12,7 @@ use Rattle.cc_core.specs.Config.{State, Live, Ended, Object}
 use Rattle.cc_core.specs.Needs.{is_inside, same_object}
 use Rattle.cc_core.specs.Numbers.{Numbers}
 use Rattle.code_names.specs.Same.{Pairwise, Told}
-use Rattle.run_numbers.proofs.Processors.{told_same, told_itself}
+use Rattle.cc_core.proofs.NameLaws.{told_same, told_itself}
 use Rattle.numbered_runs.specs.Machine.{Shelf, Progress, Goes, Over, put_held}
 use Rattle.numbered_runs.specs.Effects.{note_held, leave, leave_all, held_after}
 use Rattle.numbered_runs.specs.Stands.{is_object, Alike, SameInside, SameState}

@@ -17,7 +17,8 @@ use Rattle.numbered_threads.specs.Numbered.{IsLater}
 use Rattle.run_numbers.specs.RunNumbers.{IsListed}
 use Rattle.run_numbers.proofs.Numbers.{threads_are_numbered, objects_are_numbered, threads_stay_numbered, objects_stay_numbered}
 use Rattle.run_numbers.proofs.Homes.{live_at_home, made_at_home}
-use Rattle.run_numbers.proofs.Processors.{told_same, told_itself, one_number, root_first, processors_stay_numbered}
+use Rattle.cc_core.proofs.NameLaws.{told_same, told_itself}
+use Rattle.run_numbers.proofs.Processors.{one_number, root_first, processors_stay_numbered}
 use Rattle.numbered_runs.specs.declared.number.ThreadNo.{ThreadNo}
 use Rattle.numbered_runs.specs.Machine.{Machine, Thing, Shelf, Progress, thing_in, thread_in, home_in}
 use Rattle.numbered_runs.specs.Stands.{Stands, object_named, is_named, is_object, Alike, IsThread, IsThreadAt, IsThingAt, AreThreads, IsShelf}

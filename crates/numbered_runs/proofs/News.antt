@@ -16,7 +16,8 @@ use Rattle.cc_core.proofs.Maps.{cases_name, get_same, get_other}
 use Rattle.code_names.specs.Same.{Pairwise, Told}
 use Rattle.run_numbers.proofs.Free.{AllFree}
 use Rattle.run_numbers.proofs.Numbers.{threads_are_numbered}
-use Rattle.run_numbers.proofs.Processors.{told_same, object_founds, thread_is_housed, object_is_housed}
+use Rattle.cc_core.proofs.NameLaws.{told_same}
+use Rattle.run_numbers.proofs.Processors.{object_founds, thread_is_housed, object_is_housed}
 use Rattle.one_holder.proofs.Values.{holds_found}
 use Rattle.numbered_runs.specs.declared.number.ThreadNo.{ThreadNo}
 use Rattle.numbered_runs.specs.Machine.{Machine, Progress, Goes, Over}

@@ -20,7 +20,8 @@ use Rattle.code_names.specs.Same.{Told, SameValues, SameAsk}
 use Rattle.numbered_threads.specs.Numbered.{MovesAlike}
 use Rattle.run_numbers.proofs.Numbers.{objects_are_numbered}
 use Rattle.run_numbers.proofs.Homes.{made_at_home}
-use Rattle.run_numbers.proofs.Processors.{one_number, told_same, told_itself}
+use Rattle.cc_core.proofs.NameLaws.{told_same, told_itself}
+use Rattle.run_numbers.proofs.Processors.{one_number}
 use Rattle.numbered_runs.specs.declared.number.ThreadNo.{ThreadNo}
 use Rattle.numbered_runs.specs.Machine.{Machine, Progress, Goes, Over, thread_in}
 use Rattle.numbered_runs.specs.Needs.{Values}

@@ -1,6 +1,6 @@
 -- In every configuration of a run an object has one holder, which is inside one atomic function of it.
 use Rattle.std.proofs.Common.{◌≡◌, ◌⊎◌, inl, inr, ⊎_elim, ℕ, Bool, true, false, ◌&&◌, ◌||◌, ◌==◌, List, [], ◌∷◌, ◌++◌, length, Some, None, refl, sym, ap, ◌∙◌, subst}
-use Rattle.std.proofs.lemmas.Bool.{cases_Bool, eqb-true}
+use Rattle.std.proofs.lemmas.Bool.{cases_Bool}
 use Rattle.std.specs.Prelude.{ℤ}
 use Rattle.std.specs.FinMap as fin
 use Rattle.cc_ops.specs.Values.{Void, Ptr}
@@ -12,6 +12,7 @@ use Rattle.cc_core.specs.Effects.{addresses, parameters, left_behind}
 use Rattle.cc_core.specs.Laws.{IsReached}
 use Rattle.cc_core.specs.Needs.{same_object, is_inside, holds, any_holds}
 use Rattle.cc_core.specs.Steps.{start, ints, Run}
+use Rattle.cc_core.proofs.NameLaws.{told_same}
 use Rattle.cc_core.proofs.StepLaws.{step_case}
 use Rattle.one_holder.specs.Holders.{HasOneHolder, IsInsideOnce}
 use Rattle.one_holder.proofs.Values.{or_true, found_holds}
@@ -35,16 +36,6 @@ not_both : (a : Bool) → a ≡ false → a ≡ true → ⊥
 not_both a is also = let f : false ≡ true = sym is ∙ also in cc
 
 -- ---- which part of an object a pointer leads to does not matter
-
-told_same : (a b : Name) → same_name a b ≡ true → a ≡ b
-told_same [] [] is = refl
-told_same [] (y ∷ b) is = let f : false ≡ true = is in cc
-told_same (x ∷ a) [] is = let f : false ≡ true = is in cc
-told_same (x ∷ a) (y ∷ b) is =
-    let parts = both_are (x == y) (same_name a b) is in
-    let first : x ≡ y = eqb-true x y parts.0 in
-    let rest : a ≡ b = told_same a b parts.1 in
-    cc
 
 pointers : (o u : Value) → same_object o u ≡ true → (x : Name) × (j : ℕ) × (k : ℕ) × (o ≡ Ptr x j) × (u ≡ Ptr x k)
 pointers (Ptr x j) (Ptr y k) is = (x, j, k, refl, ap (λ (z : Name). Ptr z k) (sym (told_same x y is)))

@@ -21,6 +21,3 @@ pub use lines::message_line;
 pub use listing::{ListFault, Listing, list_messages};
 pub use requests::{Body, Request};
 pub use splitter::{FeedFault, Splitter};
-
-#[cfg(test)]
-mod tests;

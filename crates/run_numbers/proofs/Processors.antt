@@ -1,6 +1,6 @@
 -- A run numbers its processors one to one, and all that there is is on one of them.
 use Rattle.std.proofs.Common.{◌≡◌, ◌≢◌, inl, inr, ⊎_elim, ℕ, zero, suc, ◌+◌, Bool, true, false, ◌==◌, ◌&&◌, List, [], ◌∷◌, ◌++◌, length, drop, Option, Some, None, refl, sym, ap, ◌∙◌, subst, append-nil, arith}
-use Rattle.std.proofs.lemmas.Bool.{cases_Bool, eqb-true, eq-eqb}
+use Rattle.std.proofs.lemmas.Bool.{cases_Bool}
 use Rattle.std.proofs.lemmas.List.{length_push}
 use Rattle.std.specs.Prelude.{slice_get, if◌then◌else◌, ℤ}
 use Rattle.std.specs.FinMap as fin
@@ -14,6 +14,7 @@ use Rattle.cc_core.specs.Effects.{Effect, effect, answer, parameters, start_home
 use Rattle.cc_core.specs.Laws.{NamesAreFree}
 use Rattle.cc_core.specs.Numbers.{Numbers, listed, listing, list_threads, list_objects, new_processors, first_numbers, numbers_step}
 use Rattle.cc_core.specs.Steps.{Change, Moves, change, new_threads, step, start, ints}
+use Rattle.cc_core.proofs.NameLaws.{told_same, told_itself}
 use Rattle.cc_core.proofs.Maps.{get_same, IsKey, puts_key}
 use Rattle.cc_core.proofs.Fresh.{IsNewObject, Own, Copy, new_object_is, free_reached}
 use Rattle.run_numbers.specs.RunNumbers.{IsNumbered, begins, goes_on, IsListed, AreNumbered}
@@ -23,24 +24,6 @@ use Rattle.run_numbers.proofs.Numbers.{reached, threads_are_numbered, objects_ar
 use Rattle.run_numbers.proofs.Homes.{live_at_home, made_at_home}
 
 -- ---- names
-
-and_both : (a b : Bool) → a && b ≡ true → (a ≡ true) × (b ≡ true)
-and_both true b h = (refl, h)
-and_both false b h = let f : false ≡ true = h in cc
-
-pub told_same : (a b : Name) → same_name a b ≡ true → a ≡ b
-told_same [] [] h = refl
-told_same [] (y ∷ b) h = let f : false ≡ true = h in cc
-told_same (x ∷ a) [] h = let f : false ≡ true = h in cc
-told_same (x ∷ a) (y ∷ b) h =
-    let both = and_both (x == y) (same_name a b) h in
-    let first : x ≡ y = eqb-true x y both.0 in
-    let rest : a ≡ b = told_same a b both.1 in
-    cc
-
-pub told_itself : (a : Name) → same_name a a ≡ true
-told_itself [] = refl
-told_itself (x ∷ a) = ap (λ (b : Bool). b && same_name a a) (eq-eqb x x refl) ∙ told_itself a
 
 told_other : (a b : Name) → a ≢ b → same_name a b ≡ false
 told_other a b ne = ⊎_elim

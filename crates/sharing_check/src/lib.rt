@@ -12,6 +12,3 @@ mod program;
 
 pub use answer::{Sharing, least, sharing_of};
 pub use program::sharing;
-
-#[cfg(test)]
-mod tests;

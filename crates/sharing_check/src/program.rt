@@ -12,7 +12,5 @@ pub fn sharing(checked: &Checked) -> Sharing
     ensures answer { result ≡ spec.sharing checked.now }
     ensures one_answer { result ≡ Determinate → OneRunDecides checked.now }
 {
-    // It is spelled by some tokens and well formed.
-    let _program = checked.program();
     sharing_of(checked.shared())
 }

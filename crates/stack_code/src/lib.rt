@@ -14,6 +14,3 @@ pub use close::CodeFault;
 pub use code::Code;
 pub use instr::Instr;
 pub use maker::CodeMaker;
-
-#[cfg(test)]
-mod tests;

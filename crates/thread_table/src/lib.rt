@@ -10,6 +10,3 @@ pub use frame::{
     Asker, Frame, FrameFault, Level, MOST_INSIDE, MOST_THREADS, Parent, ThreadFault, ThreadState,
 };
 pub use threads::Threads;
-
-#[cfg(test)]
-mod tests;

@@ -5,9 +5,9 @@ use Rattle.sharing_check.proofs.LeastLaws.{none_shared}
 use Rattle.sharing_check.proofs.program.sharing.Goals as goal
 
 pub returns-clause-answer : goal.returns-clause-answer
-returns-clause-answer c = c.sharing_of.ensures ∙ ap sharing_of c.shared.ensures
+returns-clause-answer c = c.sharing_of.ensures ∙ ap sharing_of c.shared.ensures.value
 
 pub returns-clause-one_answer : goal.returns-clause-one_answer
 returns-clause-one_answer c = λ is.
-    one_run_decides c.args.checked.now c.program-program.ensures.spelled c.program-program.ensures.well_formed
-    (sym c.shared.ensures ∙ none_shared c.shared.result.now (sym c.sharing_of.ensures ∙ is))
+    one_run_decides c.args.checked.now c.shared.ensures.spelled c.shared.ensures.well_formed
+    (sym c.shared.ensures.value ∙ none_shared c.shared.result.now (sym c.sharing_of.ensures ∙ is))

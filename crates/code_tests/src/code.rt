@@ -1,0 +1,128 @@
+ghost use Rattle.std.specs.Prelude.{IfOk};
+ghost use Rattle.stack_code.specs.Kept.{IsFunShape};
+
+use cc_core::Constant;
+use cc_ops::{FunShape, Kind, Op};
+use ccpp_edge::{List, Text};
+use stack_code::{CodeFault, CodeMaker, Instr};
+use std::alloc::{AllocError, Global};
+use std::test::Fail;
+
+/// A function of two variables.
+fn shape(alloc: Global) -> Result<FunShape, AllocError>
+    ensures { IfOk result IsFunShape }
+{
+    Ok(FunShape {
+        name: Text::of(alloc, "main")?,
+        line: 1,
+        params: List::new(alloc),
+        vars: 2,
+        atomic: false,
+    })
+}
+
+/// What `close` says of a function of these instructions.
+fn fault(alloc: Global, instrs: Vec<Instr>) -> Result<Option<CodeFault>, AllocError> {
+    let mut maker = CodeMaker::new(alloc);
+    maker.function(shape(alloc)?)?;
+    for instr in instrs {
+        maker.push(instr, 1)?;
+    }
+    match maker.close(alloc) {
+        Ok(_) => Ok(None),
+        Err(CodeFault::Memory) => Err(AllocError),
+        Err(fault) => Ok(Some(fault)),
+    }
+}
+
+/// Takes a value that threads may hand over and read at once.
+fn crosses_threads<T: Send + Sync>(_value: &T) {}
+
+#[test]
+fn types_cross_threads(rt: HostRuntime) -> Result<(), Fail> {
+    let alloc = rt.alloc();
+    let mut maker = CodeMaker::new(alloc);
+    maker.function(shape(alloc)?)?;
+    maker.push(Instr::Push(Constant::Void), 1)?;
+    maker.push(Instr::Ret, 1)?;
+    if let Ok(code) = maker.close(alloc) {
+        crosses_threads(&code);
+        assert_eq!(rt; code.main(), Some(0));
+    }
+    Ok(())
+}
+
+fn target(at: u32) -> Option<CodeFault> {
+    Some(CodeFault::BadTarget { at })
+}
+
+fn depth(at: u32) -> Option<CodeFault> {
+    Some(CodeFault::BadDepth { at })
+}
+
+#[test]
+fn close_names_the_first_bad_target(rt: HostRuntime) -> Result<(), Fail> {
+    let alloc = rt.alloc();
+    let zero = Constant::Int(0);
+    let good = vec![in alloc; Instr::Push(zero), Instr::Ret]?;
+    assert_eq!(rt; fault(alloc, good)?, None);
+    let empty = vec![in alloc]?;
+    assert_eq!(rt; fault(alloc, empty)?, target(0));
+    let behind_the_end = vec![in alloc; Instr::Jump(1)]?;
+    assert_eq!(rt; fault(alloc, behind_the_end)?, target(0));
+    let circle = vec![in alloc; Instr::Push(zero), Instr::Drop, Instr::Jump(0)]?;
+    assert_eq!(rt; fault(alloc, circle)?, target(2));
+    let variable = vec![in alloc; Instr::Var(2), Instr::Ret]?;
+    assert_eq!(rt; fault(alloc, variable)?, target(0));
+    let falls_out = vec![in alloc; Instr::Push(zero)]?;
+    assert_eq!(rt; fault(alloc, falls_out)?, target(0));
+    Ok(())
+}
+
+#[test]
+fn close_names_the_first_number_out_of_range(rt: HostRuntime) -> Result<(), Fail> {
+    let alloc = rt.alloc();
+    let function = vec![in alloc; Instr::Call(1), Instr::Ret]?;
+    assert_eq!(rt; fault(alloc, function)?, target(0));
+    let class = vec![in alloc; Instr::NewObj(0), Instr::Ret]?;
+    assert_eq!(rt; fault(alloc, class)?, target(0));
+    let kind = Kind::Int;
+    let no_cells = vec![in alloc;
+        Instr::This,
+        Instr::Drop,
+        Instr::New { kind, count: 0 },
+        Instr::Ret,
+    ]?;
+    assert_eq!(rt; fault(alloc, no_cells)?, target(2));
+    Ok(())
+}
+
+#[test]
+fn close_names_the_first_bad_depth(rt: HostRuntime) -> Result<(), Fail> {
+    let alloc = rt.alloc();
+    let zero = Constant::Int(0);
+    let none = vec![in alloc; Instr::Ret]?;
+    assert_eq!(rt; fault(alloc, none)?, depth(0));
+    let two = vec![in alloc; Instr::Push(zero), Instr::Push(zero), Instr::Ret]?;
+    assert_eq!(rt; fault(alloc, two)?, depth(2));
+    let few = vec![in alloc; Instr::Push(zero), Instr::Op(Op::Add), Instr::Ret]?;
+    assert_eq!(rt; fault(alloc, few)?, depth(1));
+    let differ = vec![in alloc;
+        Instr::Push(zero),
+        Instr::Test(3),
+        Instr::Push(zero),
+        Instr::Push(zero),
+        Instr::Ret,
+    ]?;
+    assert_eq!(rt; fault(alloc, differ)?, depth(3));
+    let both = vec![in alloc;
+        Instr::Field(0),
+        Instr::Test(9),
+        Instr::Push(zero),
+        Instr::Ret,
+    ]?;
+    assert_eq!(rt; fault(alloc, both)?, depth(0));
+    let one_place = vec![in alloc; Instr::Test(9), Instr::Push(zero), Instr::Ret]?;
+    assert_eq!(rt; fault(alloc, one_place)?, target(0));
+    Ok(())
+}

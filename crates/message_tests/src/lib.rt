@@ -1,0 +1,7 @@
+//! Tests of request messages and the values in them.
+#![tactic(auto)]
+
+#[cfg(test)]
+mod messages;
+#[cfg(test)]
+mod values;

@@ -1,5 +1,0 @@
-use Rattle.thread_table.specs.Table.{IsLive}
-use Rattle.thread_table.proofs.tests.enter_all.Given as goal
-
-abbrev pub invariant-loop-code : goal.invariant-loop-code
-invariant-loop-code l = IsLive l.threads l.thread
