@@ -37,7 +37,6 @@ pub fn within(terms: Terms) -> Terms
 }
 
 /// A test in parentheses.
-#[tactic(auto, unfolding(cc_grammar::specs::ReadStatements::test))]
 pub fn test(terms: Terms, tokens: &mut Cursor<'_>) -> Result<Expr, Fault>
     ensures { Gives (read.test terms.depth tokens.old) result tokens.new }
 {
