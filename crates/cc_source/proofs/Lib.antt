@@ -24,3 +24,4 @@ pub mod RangeLaws
 pub mod ShapeLaws
 pub mod LimitLaws
 pub mod MainLaws
+pub mod MainThere

@@ -146,17 +146,18 @@ or_false : (b : Bool) → (b || false) ≡ true → b ≡ true
 or_false true any = refl
 or_false false any = any
 
-record HasMain (functions : List Signature) : Type 0 where
-  number : ℕ
-  found : Signature
-  is : slice_get functions number ≡ Some found
-  main : found.is_main ≡ true
+-- one of some functions is called main
+pub record HasMain (functions : List Signature) : Type 0 where
+  pub number : ℕ
+  pub found : Signature
+  pub is : slice_get functions number ≡ Some found
+  pub main : found.is_main ≡ true
 
 this_or_later : (gs : List Signature) (g : Signature) (later : Bool) → (later ≡ true → HasMain gs) → (g.is_main || later) ≡ true → HasMain (g ∷ gs)
 this_or_later gs g true f any = let m = f refl in record { number = suc m.number; found = m.found; is = m.is; main = m.main }
 this_or_later gs g false f any = record { number = 0; found = g; is = refl; main = or_false g.is_main any }
 
-some_main : (cx : Context) (xs : List Item) → list_any is_main xs ≡ true → HasMain (functions_of cx xs)
+pub some_main : (cx : Context) (xs : List Item) → list_any is_main xs ≡ true → HasMain (functions_of cx xs)
 some_main cx [] any = absurd (false≢true any)
 some_main cx (item.Const name value line ∷ xs) any = some_main cx xs any
 some_main cx (item.Class c ∷ xs) any =

@@ -1,7 +1,7 @@
 //! What the front end leaves of a well-formed program.
 #![tactic(auto)]
 
-ghost use Rattle.std.specs.Prelude.{◌≤◌, length};
+ghost use Rattle.std.specs.Prelude.{◌<◌, ◌≤◌, length};
 ghost use Rattle.std.specs.List.{AllByRecursion};
 ghost use Rattle.cc_ops.specs.Shapes.{shape_of};
 ghost use Rattle.cc_tree.specs.declared.declarations.Program.{Program};
@@ -31,4 +31,9 @@ pub fn core_shapes_fit()
     ensures classes { (p : Program) → IsWellFormed p → AllByRecursion (λ c. IsClassShape (shape_of c)) (core_program p).classes }
     ensures few_functions { (p : Program) → IsWellFormed p → length (core_program p).functions ≤ 1024 }
     ensures few_classes { (p : Program) → IsWellFormed p → length (core_program p).classes ≤ 256 }
+{}
+
+/// In what the front end leaves of a well-formed program the function `main`, where a run begins, is one of the program's functions.
+pub fn core_main_is_there()
+    ensures { (p : Program) → IsWellFormed p → (program_of (core_program p)).main < length (program_of (core_program p)).functions }
 {}

@@ -8,5 +8,4 @@ pub mod HolderLaws
 pub mod MoveLaws
 pub mod OrderLaws
 pub mod PostLaws
-pub mod MainThere
 pub mod StartLaws

@@ -14,6 +14,7 @@ use Rattle.cc_lower.specs.Lowerable.{IsLowerable}
 use Rattle.cc_source.proofs.ProgramLaws.{core_is_a_program}
 use Rattle.cc_source.proofs.RangeLaws.{core_is_in_range}
 use Rattle.cc_source.proofs.LimitLaws.{core_functions_fit, core_classes_fit, few_functions, few_classes}
+use Rattle.cc_source.proofs.MainThere.{core_main_is_there}
 use Rattle.cc_tree.specs.declared.declarations.Program.{Program as Source}
 use Rattle.cc_types.specs.Program.{IsWellFormed, core_program}
 use Rattle.numbered_runs.specs.Alike.{first_machine, ints}
@@ -24,7 +25,6 @@ use Rattle.numbered_runs.specs.Stands.{Stands}
 use Rattle.numbered_runs.specs.Steps.{settle}
 use Rattle.numbered_runs.proofs.Start.{run_begins}
 use Rattle.cc_walk.specs.Begins.{entered_runner, entering}
-use Rattle.cc_walk.proofs.MainThere.{core_main_is_there}
 
 -- The compiler takes the core of every program that breaks no static rule.
 pub lowerable : (p : Source) → IsWellFormed p → IsLowerable (core_program p)
