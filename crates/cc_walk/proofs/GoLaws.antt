@@ -17,7 +17,7 @@ use Rattle.numbered_runs.specs.Effects.{effect, start_home, is_call}
 use Rattle.numbered_runs.specs.Steps.{its_effect, its_answer, its_new, new_home, new_numbers, tables, itself, freed, apply, settle, settle_all, push_all, more_tables, numbers_on}
 use Rattle.cc_walk.specs.Answered.{IsStarted, HasEffect, values_of, inside_after}
 use Rattle.cc_walk.specs.Asking.{IsAsking}
-use Rattle.cc_walk.specs.Views.{home_of, live_of}
+use Rattle.cc_walk.specs.Views.{home_of, live_of, started}
 use Rattle.cc_walk.specs.declared.effect.Start.{Start}
 use Rattle.cc_walk.specs.declared.effect.Effect.{Effect}
 use Rattle.cc_walk.proofs.Kept.{stays_made}
@@ -40,7 +40,7 @@ module _ (w : Machine) (t : ThreadNo) (r : Runner) (line : ℕ) (ask : Ask Addre
   home_is = home_by e.start has.starts
 
   starts_by : (start : Option Start) → IsStarted (start_home t.processor ask) start (effect w t.processor r ask found).starts
-      → map (λ (s : Start). s.thread) (option_to_list start) ≡ (effect w t.processor r ask found).starts
+      → map started (option_to_list start) ≡ (effect w t.processor r ask found).starts
   starts_by None none = sym none
   starts_by (Some s) is = sym (is.1)
 
@@ -53,10 +53,10 @@ module _ (w : Machine) (t : ThreadNo) (r : Runner) (line : ℕ) (ask : Ask Addre
 
   -- the threads that are made
   new_is : (vs : List RustValue) (new : List (Thread Address)) → map value_of vs ≡ values_of e.found
-      → new ≡ map (λ (s : Start). s.thread) (option_to_list e.start) ++ (after (move w.code r.thread) (answer_of vs (length r.kids) e.branches)).branches
+      → new ≡ map started (option_to_list e.start) ++ (after (move w.code r.thread) (answer_of vs (length r.kids) e.branches)).branches
       → new ≡ its_new w t r ask k found
   new_is vs new same is =
-      let starts = map (λ (s : Start). s.thread) (option_to_list e.start) in
+      let starts = map started (option_to_list e.start) in
       is ∙ ap (λ (a : Then Address). starts ++ a.branches) (then_is w t r line ask k asking (answer_of vs (length r.kids) e.branches) ∙ ap k (answer_is vs (length r.kids) same refl))
       ∙ ap (λ ts. ts ++ (k (its_answer w t r ask k found)).branches) (starts_by e.start has.starts)
 
@@ -142,7 +142,7 @@ module _ (w : Machine) (t : ThreadNo) (r : Runner) (line : ℕ) (ask : Ask Addre
       (kids : List ThreadNo) (l f : Runner)
       (valued : map value_of vs ≡ values_of e.found)
       (homed : home ≡ home_of t.processor e.start)
-      (forked : new ≡ map (λ (s : Start). s.thread) (option_to_list e.start) ++ (after (move w.code r.thread) (answer_of vs (length r.kids) e.branches)).branches)
+      (forked : new ≡ map started (option_to_list e.start) ++ (after (move w.code r.thread) (answer_of vs (length r.kids) e.branches)).branches)
       (grown : now ≡ more_tables e.processors w.threads)
       (pushed : made ≡ push_all now home (settle_all w.code new))
       (numbered : kids ≡ numbers_on home (made_in now home) new)

@@ -3,6 +3,7 @@ pub mod StepLaws
 pub mod Outcomes
 pub mod Kept
 pub mod GoLaws
+pub mod JoinLaws
 pub mod LoopLaws
 pub mod HolderLaws
 pub mod MoveLaws

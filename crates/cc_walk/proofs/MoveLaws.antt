@@ -31,7 +31,7 @@ use Rattle.numbered_runs.specs.Alike.{IsLive, DoesAlike, main_thread}
 use Rattle.numbered_runs.proofs.Follow.{steps_follow}
 use Rattle.numbered_runs.proofs.Naming.{one_thread_name, thread_placed, thread_at}
 use Rattle.run_numbers.proofs.Processors.{root_first, main_first}
-use Rattle.cc_walk.specs.Enabled.{may_move, IsMoveable, CanMove}
+use Rattle.cc_walk.specs.Enabled.{may_move, IsMoveable, CanMove, IsMainValue}
 use Rattle.cc_walk.specs.Views.{live_of}
 use Rattle.cc_walk.specs.Verdicts.{is_hold}
 
@@ -145,40 +145,30 @@ module _ (p : Program) (w : Machine) (s : Config) (n : Numbers) (st : Stands p w
   main_is : IsThread n main_thread []
   main_is = thread_placed n main_thread [] [] (root_first p st.ints s n st.run) (main_first p st.ints s n st.run)
 
-  ended_same : (x : Name) (a : Progress) (b : State) → SameState n p w.code x a b
-      → (v : ℤ) → ended_with (Some a) ≡ Some (values.Int v) ↔ b ≡ Ended (values.Int v)
-  ended_same x (Goes r) (Live l) same v = (λ e. absurd (none-some _ e), λ e. absurd (cc))
-  ended_same x (Over u) (Ended t) same v = ended_value u t same v
-    where
-      ended_value : (u : values.Value Address) (t : values.Value Name) → Alike n u t
-          → (v : ℤ) → ended_with (Some (Over u)) ≡ Some (values.Int v) ↔ Ended t ≡ Ended (values.Int v)
-      ended_value (values.Int i) (values.Int j) same v = (λ e. let f : i ≡ v = cc in ap (λ k. Ended (values.Int k)) (sym same ∙ f), λ e. let f : j ≡ v = cc in ap (λ k. Some (values.Int k)) (same ∙ f))
-      ended_value values.Void values.Void same v = (λ e. absurd (cc), λ e. absurd (cc))
-      ended_value values.Null values.Null same v = (λ e. absurd (cc), λ e. absurd (cc))
-      ended_value (values.Ptr a i) (values.Ptr o j) same v = (λ e. absurd (cc), λ e. absurd (cc))
-      ended_value u t same v = absurd same
-  ended_same x a b same v = absurd same
+  same_int : (v : values.Value Address) (u : values.Value Name) → Alike n v u → values.int_of v ≡ values.int_of u
+  same_int values.Void values.Void same = refl
+  same_int (values.Int i) (values.Int j) same = same
+  same_int values.Null values.Null same = refl
+  same_int (values.Ptr a i) (values.Ptr o j) same = refl
+  same_int v u same = absurd same
 
-  -- main has ended with an int in the one where it has in the other
-  pub main_alike : (v : ℤ) → ended_with (thread_in w.threads main_thread) ≡ Some (values.Int v) ↔ fin.get s.threads [] ≡ Some (Ended (values.Int v))
-  main_alike v =
+  value_of_state : (a : Progress) (b : State) → fin.get s.threads [] ≡ Some b → SameState n p w.code [] a b
+      → IsMainValue s (option_map (λ v. values.int_of v) (ended_with (Some a)))
+  value_of_state (Goes r) (Live l) is same = (l, is)
+  value_of_state (Over v) (Ended u) is same = (u, is, same_int v u same)
+  value_of_state a b is same = absurd same
+
+  -- main goes on in both, or has ended with the same int in both
+  pub main_alike : IsMainValue s (option_map (λ v. values.int_of v) (ended_with (thread_in w.threads main_thread)))
+  main_alike =
       let at = thread_at p w s n st main_thread [] main_is in
       let there = at.2 in
-      let both = ended_same [] at.0 there.0 there.2 v in (
-        λ e. there.1 ∙ ap (λ (b : State). Some b) (both.0 (ap ended_with (sym at.1) ∙ e)),
-        λ e. ap ended_with at.1 ∙ both.1 (same_Some there.0 (Ended (values.Int v)) (sym there.1 ∙ e)),
-      )
+      subst (λ o. IsMainValue s (option_map (λ v. values.int_of v) (ended_with o))) (sym at.1)
+      (value_of_state at.0 there.0 there.1 there.2)
 
 pub is_some_value : (o : Option RustValue) → option.is_some o ≡ is_some (option_map value_of o)
 is_some_value None = refl
 is_some_value (Some v) = refl
-
-pub not_int : (v : RustValue) → ((i : ℤ) → ¬ (v ≡ machine.Int i)) → (o : Option (values.Value Address)) → Some (value_of v) ≡ o
-    → (i : ℤ) → ¬ (o ≡ Some (values.Int i))
-not_int machine.Void never o is i e = let f : value_of machine.Void ≡ values.Int i = same_Some _ _ (is ∙ e) in absurd (cc)
-not_int (machine.Int j) never o is i e = never j refl
-not_int machine.Null never o is i e = let f : value_of machine.Null ≡ values.Int i = same_Some _ _ (is ∙ e) in absurd (cc)
-not_int (machine.Ptr a) never o is i e = let f : value_of (machine.Ptr a) ≡ values.Int i = same_Some _ _ (is ∙ e) in absurd (cc)
 
 -- ---- no thread of a number that was not given
 

@@ -15,3 +15,10 @@ pub found_set : {X : Type 0} (xs : List X) (k : ℕ) (y : X) → k < length xs �
 found_set [] k y within = absurd (omega arith)
 found_set (x ∷ xs) zero y within = refl
 found_set (x ∷ xs) (suc k) y within = found_set xs k y (omega arith)
+
+-- an item is set that is told as the one in its place
+pub told_alike : {X Y : Type 0} (f : X → Y) (xs : List X) (k : ℕ) (x y : X) → k < length xs → x ≡ get_or xs k x → f y ≡ f x
+    → map f (slice_set xs k y) ≡ map f xs
+told_alike f [] k x y within is same = absurd (omega arith)
+told_alike f (z ∷ xs) zero x y within is same = ap (λ w. w ∷ map f xs) (same ∙ ap f is)
+told_alike f (z ∷ xs) (suc k) x y within is same = ap (λ ws. f z ∷ ws) (told_alike f xs k x y (omega arith) is same)

@@ -8,7 +8,7 @@ use Rattle.numbered_runs.specs.Machine.{Machine, Shelf, Runner}
 use Rattle.numbered_runs.specs.Needs.{Values, Verdict, Go, Hold, Bad, needs, check_all}
 use Rattle.numbered_runs.specs.Effects as model
 use Rattle.numbered_runs.specs.Effects.{effect, left_behind, write_all, more_shelves, put_things, addresses, held_after, start_home, is_call, branch_count}
-use Rattle.cc_walk.specs.Views.{inside_of}
+use Rattle.cc_walk.specs.Views.{inside_of, started}
 use Rattle.cc_walk.specs.declared.effect.Found.{Found}
 use Rattle.cc_walk.specs.declared.effect.Found.TheVariants as found
 use Rattle.cc_walk.specs.declared.effect.Entry.{Entry}
@@ -32,7 +32,7 @@ inside_after entry.Leaves inside = left_behind inside
 -- a thread is made for a call, on this processor, or none is
 abbrev pub IsStarted : (home : ℕ) → Option Start → List (Thread Address) → Type 0
 IsStarted home None threads = threads ≡ []
-IsStarted home (Some s) threads = (s.processor ≡ home) × (threads ≡ s.thread ∷ [])
+IsStarted home (Some s) threads = (s.processor ≡ home) × (threads ≡ started s ∷ [])
 
 -- the objects before new ones are made
 abbrev pub ground : Machine → model.Effect → List Shelf

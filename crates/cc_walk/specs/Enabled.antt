@@ -1,10 +1,10 @@
 -- Which threads of a walk can move, and what main has ended with.
 use Rattle.std.specs.Prelude.{◌≡◌, ◌<◌, ◌⊎◌, ◌↔◌, Bool, true, false, IsTrue, List, [], Contains, AllPairs, Option, Some, None, ℤ}
 use Rattle.std.specs.FinMap as fin
-use Rattle.cc_ops.specs.Values.{Int}
-use Rattle.cc_core.specs.Names.{Name}
+use Rattle.cc_ops.specs.Values.{int_of}
+use Rattle.cc_core.specs.Names.{Name, Value}
 use Rattle.cc_core.specs.Core.{Program}
-use Rattle.cc_core.specs.Config.{Config, Ended}
+use Rattle.cc_core.specs.Config.{Config, Thread, Live, Ended}
 use Rattle.cc_core.specs.Numbers.{Numbers}
 use Rattle.cc_core.specs.Steps as core
 use Rattle.numbered_runs.specs.declared.number.ThreadNo.{ThreadNo}
@@ -40,7 +40,7 @@ pub record AreAll (P : ThreadNo → Type 0) (ts : List ThreadNo) : Type 0 where
   pub each : (t : ThreadNo) → Contains ts t ↔ P t
   pub in_order : AllPairs IsBefore ts
 
--- the int that main has ended with; none where it goes on, or has ended with no int
+-- the int that main has ended with; none while it goes on
 abbrev pub IsMainValue : Config → Option ℤ → Type 0
-IsMainValue s (Some v) = fin.get s.threads [] ≡ Some (Ended (Int v))
-IsMainValue s None = (v : ℤ) → ¬ (fin.get s.threads [] ≡ Some (Ended (Int v)))
+IsMainValue s None = (l : Thread) × (fin.get s.threads [] ≡ Some (Live l))
+IsMainValue s (Some i) = (v : Value) × (fin.get s.threads [] ≡ Some (Ended v)) × (i ≡ int_of v)

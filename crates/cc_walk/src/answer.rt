@@ -28,7 +28,7 @@ use crate::table::Table;
 use cc_core::{How, PrintPart};
 use cc_ops::{BuildError, Cell, Kind, indexed, int_of, shifted};
 use ccpp_edge::{Bytes, List};
-use code_thread::{Ask, Thread, class, function as function_of, parameters as kinds_of};
+use code_thread::{Ask, class, function as function_of, parameters as kinds_of};
 use global_ptr::{FaultKind, Value};
 use stack_code::Code;
 use std::alloc::{AllocError, Global};
@@ -179,7 +179,9 @@ impl Asker<'_> {
         let args = List::from_slice(self.alloc, args)?;
         let start = Start {
             processor: self.processor,
-            thread: Thread::start(function, this, args),
+            function,
+            this,
+            args,
         };
         Ok(Effect::start(start, false))
     }
@@ -197,7 +199,9 @@ impl Asker<'_> {
         let args = as_kinds(self.alloc, kinds_of(self.code, function), after_first(args))?;
         let start = Start {
             processor,
-            thread: Thread::start(function, this, args),
+            function,
+            this,
+            args,
         };
         Ok(Effect::start(start, calls))
     }

@@ -10,9 +10,9 @@ ghost use Rattle.cc_walk.specs.Views.{machine_of};
 
 use crate::answer::Asker;
 use crate::walk::Walk;
+use cc_ops::int_of;
 use ccpp_edge::List;
 use code_thread::Look;
-use global_ptr::Value;
 use numbered_runs::ThreadNo;
 use std::alloc::AllocError;
 
@@ -80,7 +80,7 @@ impl Walk {
         self.table.threads_left()
     }
 
-    /// The int that `main` has ended with, and `None` exactly where it goes on, or has ended with no int.
+    /// The int that `main` has ended with, and `None` exactly while it goes on. A value that is no int counts as 0.
     pub fn main_value(&self) -> Option<i64>
         ensures { (p : Program) (s : Config) (n : Numbers) → Stands p (machine_of self.now) s n → IsMainValue s result }
     {
@@ -88,10 +88,7 @@ impl Walk {
             processor: 0,
             thread: 0,
         };
-        match self.table.ended(main)? {
-            Value::Int(value) => Some(value),
-            _ => None,
-        }
+        Some(int_of(self.table.ended(main)?))
     }
 
     /// What was printed.

@@ -4,7 +4,6 @@ ghost use Rattle.cc_walk.specs.Answered.{values_of};
 
 use crate::live::Inside;
 use ccpp_edge::List;
-use code_thread::Thread;
 use global_ptr::Value;
 
 /// The addresses of what a step made, and then the values that it found.
@@ -27,7 +26,9 @@ pub(crate) enum Entry {
 #[derive(Drop)]
 pub(crate) struct Start {
     pub processor: u32,
-    pub thread: Thread,
+    pub function: u32,
+    pub this: Value,
+    pub args: List<Value>,
 }
 
 /// What a step leaves its thread to do.

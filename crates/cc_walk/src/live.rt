@@ -30,12 +30,14 @@ pub(crate) struct Live {
     pub kids: List<ThreadNo>,
     /// The functions that it is inside.
     pub inside: Stack<Inside>,
+    /// The place, among the branches that it joins, where one was last seen to go on. It counts for the time that a look takes alone.
+    pub seen: usize,
 }
 
 /// A thread goes on, or has ended with a value.
 #[derive(Debug, Drop)]
 pub(crate) enum State {
-    Live(Live),
+    Live(Box<Live>),
     Ended(Value),
 }
 
@@ -49,6 +51,7 @@ impl Live {
             asked: None,
             kids: List::new(alloc),
             inside: Stack::new(alloc),
+            seen: 0,
         }
     }
 
@@ -79,12 +82,12 @@ impl Live {
     }
 
     /// How it stands after its silent moves, where this is the value that it ends with.
-    pub fn state(self, end: Option<Value>) -> State
-        ensures { progress_of result ≡ ended_as (runner_of self) end }
+    pub fn state(self, alloc: Global, end: Option<Value>) -> Result<State, AllocError>
+        ensures { IfOk result (λ state. progress_of state ≡ ended_as (runner_of self) end) }
     {
         match end {
-            Some(value) => State::Ended(value),
-            None => State::Live(self),
+            Some(value) => Ok(State::Ended(value)),
+            None => Ok(State::Live(Box::new(alloc, self)?)),
         }
     }
 }
@@ -96,6 +99,15 @@ impl State {
     {
         let mut live = Live::new(alloc, thread);
         let end = live.settle(code)?;
-        Ok(live.state(end))
+        live.state(alloc, end)
+    }
+
+    /// Notes where the branches that it joins are looked at first. All that is told of it stays.
+    pub fn note_seen(&mut self, place: usize)
+        ensures { progress_of self.new ≡ progress_of self.old }
+    {
+        if let State::Live(live) = self {
+            live.seen = place;
+        }
     }
 }

@@ -15,7 +15,7 @@ ghost use Rattle.numbered_runs.specs.Steps.{step, settle, freed, apply, join, jo
 ghost use Rattle.cc_walk.specs.Answered.{HasEffect};
 ghost use Rattle.cc_walk.specs.Answers.{IsStep, Follows};
 ghost use Rattle.cc_walk.specs.Asking.{IsAsking};
-ghost use Rattle.cc_walk.specs.Views.{runner_of, machine_of, home_of};
+ghost use Rattle.cc_walk.specs.Views.{runner_of, machine_of, home_of, started};
 
 use crate::answer::Asker;
 use crate::effect::{Effect, Start};
@@ -53,6 +53,8 @@ impl Walk {
             processor: t.processor,
         };
         if asker.waits(&self.objects, &ask) {
+            let seen = asker.seen(&ask);
+            self.table.note_seen(t, seen);
             return Stepped::Blocked;
         }
         match asker.answer(&ask, &mut self.objects, &mut self.output) {
@@ -78,13 +80,14 @@ impl Walk {
         ensures { (r : Runner) (line : ℕ) (ask : AskOf Address) (k : AnswerOf Address → Then Address) → let w = machine_of self.old in
             IsAsking w t r line ask k → OnOk result (machine_of self.new ≡ joined w t r k (value_of value)) }
     {
-        let Some(mut live) = self.table.take(t) else {
+        let Some(mut taken) = self.table.take(t) else {
             return Ok(());
         };
+        let live = taken.as_mut();
         live.asked = None;
         live.thread
             .answered(self.alloc, &self.code, &[value], 0, 0)?;
-        self.put_settled(t, live)?;
+        self.put_settled(t, taken)?;
         Ok(())
     }
 
@@ -109,20 +112,21 @@ impl Walk {
         self.table.add_processors(processors)?;
         let next = self.table.next(home);
         let kids = self.table.make_all(&self.code, home, threads)?;
-        let Some(mut live) = self.table.take(t) else {
+        let Some(mut taken) = self.table.take(t) else {
             return Ok(());
         };
+        let live = taken.as_mut();
         let first = live.kids.len();
         live.kids.append(kids)?;
         live.enter(entry)?;
         if calls {
             live.asked = Some(next);
-            self.table.put(t, State::Live(live));
+            self.table.put(t, State::Live(taken));
             return Ok(());
         }
         live.thread
             .answered(self.alloc, &self.code, found.as_slice(), first, branches)?;
-        self.put_settled(t, live)?;
+        self.put_settled(t, taken)?;
         Ok(())
     }
 
@@ -135,26 +139,33 @@ impl Walk {
     ) -> Result<Vec<Thread>, AllocError>
         ensures { (r : Runner) (first count : ℕ) → thread_in self.now.table t ≡ Some (Goes r) → let m = move (code_of self.now.code) r.thread in
             IfOk result (λ threads. threads.items
-            ≡ map (λ s. s.thread) (option_to_list start) ++ (after m (answer_of found.now first count)).branches) }
+            ≡ map started (option_to_list start) ++ (after m (answer_of found.now first count)).branches) }
     {
         let Some(live) = self.table.live(t) else {
             return Ok(Vec::new(self.alloc));
         };
         let mut threads = live.thread.branches(self.alloc, &self.code, found)?;
         if let Some(start) = start {
-            threads.insert(0, start.thread)?;
+            let Start {
+                function,
+                this,
+                args,
+                ..
+            } = start;
+            threads.insert(0, Thread::start(function, this, args))?;
         }
         Ok(threads)
     }
 
     /// Puts a thread back after its silent moves. One that has ended leaves all functions that it is inside.
-    fn put_settled(&mut self, t: ThreadNo, mut live: Live) -> Result<(), AllocError>
-        ensures { let w = machine_of self.old in let r = runner_of live in let x = settle w.code r in OnOk result (machine_of self.new
+    fn put_settled(&mut self, t: ThreadNo, mut live: Box<Live>) -> Result<(), AllocError>
+        ensures { let w = machine_of self.old in let r = runner_of live.value in let x = settle w.code r in OnOk result (machine_of self.new
             ≡ record w { shelves = freed w.code x r.inside w.shelves; threads = put_thread w.threads t x }) }
     {
         match live.settle(&self.code)? {
             Some(value) => {
-                leave_all(&self.code, &mut self.objects, live.inside);
+                let Live { inside, .. } = Box::into_inner(live);
+                leave_all(&self.code, &mut self.objects, inside);
                 self.table.put(t, State::Ended(value));
             }
             None => self.table.put(t, State::Live(live)),

@@ -77,7 +77,7 @@ fn first_table(
     let end = live.settle(code)?;
     let mut table = Table::new(alloc);
     table.add_processor()?;
-    table.push(0, live.state(end))?;
+    table.push(0, live.state(alloc, end)?)?;
     Ok(table)
 }
 

@@ -66,6 +66,16 @@ impl Threads {
         Some(std::mem::replace(place, state))
     }
 
+    /// Notes where the branches that a thread joins are looked at first.
+    fn note_seen(&mut self, thread: u32, place: usize)
+        ensures { self.new ≡ self.old }
+    {
+        let Some(state) = self.states.get_mut(thread as usize) else {
+            return;
+        };
+        state.note_seen(place);
+    }
+
     /// Makes a thread. More than 32 bits can number fit no memory.
     fn push(&mut self, state: State) -> Result<(), AllocError>
         ensures { OnOk result (self.new ≡ self.old ++ progress_of state ∷ []) }
@@ -190,7 +200,7 @@ impl Table {
         ensures { option_map (λ l. runner_of l.now) result ≡ live_of (thread_in self.now t) }
     {
         match self.state(t)? {
-            State::Live(live) => Some(live),
+            State::Live(live) => Some(live.as_ref()),
             State::Ended(_) => None,
         }
     }
@@ -206,8 +216,8 @@ impl Table {
     }
 
     /// Takes the live thread of a number out of the table. Void stands there until it is put back.
-    pub fn take(&mut self, t: ThreadNo) -> Option<Live>
-        ensures live { option_map runner_of result ≡ live_of (thread_in self.old t) }
+    pub fn take(&mut self, t: ThreadNo) -> Option<Box<Live>>
+        ensures live { option_map (λ l. runner_of l.value) result ≡ live_of (thread_in self.old t) }
         ensures now { self.new ≡ put_thread self.old t (Over values.Void) }
     {
         match self.replace(t, State::Ended(Value::Void))? {
@@ -230,6 +240,15 @@ impl Table {
     {
         let threads = self.processors.get_mut(t.processor as usize)?;
         threads.replace(t.thread, state)
+    }
+
+    /// Notes where the branches that a thread joins are looked at first. All that is told of the threads stays.
+    pub fn note_seen(&mut self, t: ThreadNo, place: usize)
+        ensures { self.new ≡ self.old }
+    {
+        if let Some(threads) = self.processors.get_mut(t.processor as usize) {
+            threads.note_seen(t.thread, place);
+        }
     }
 
     /// Makes a thread on a processor that is there.

@@ -1,4 +1,4 @@
-ghost use Rattle.std.specs.Prelude.{◌≡◌, ℕ, List, ◌&&◌, reverse};
+ghost use Rattle.std.specs.Prelude.{◌≡◌, ℕ, List, ◌&&◌, not, is_some, reverse, drop};
 ghost use Rattle.cc_ops.specs.Machine.{value_of};
 ghost use Rattle.cc_core.specs.Core.{function_shape};
 ghost use Rattle.code_thread.specs.View.{ask_of};
@@ -32,8 +32,16 @@ impl Asker<'_> {
             }
             Ask::Calls(How::On, function, args) => self.is_held(objects, function, first_of(args)),
             Ask::Enters(function, this, _) => self.is_held(objects, function, this),
-            Ask::Joins(made) => !self.have_ended(made),
+            Ask::Joins(made) => self.going(made).is_some(),
             _ => false,
+        }
+    }
+
+    /// Where a thread that waits is looked at first when it is asked again: of a join the place of a branch that goes on.
+    pub fn seen(&self, ask: &Ask) -> usize {
+        match *ask {
+            Ask::Joins(made) => self.going(made).unwrap_or(0),
+            _ => 0,
         }
     }
 
@@ -44,11 +52,28 @@ impl Asker<'_> {
         is_atomic(self.code, function) && objects.is_held(object)
     }
 
-    /// Whether of the threads that it made these have ended. It looks at the newest first, and stops at the first that goes on.
-    fn have_ended(&self, made: &[usize]) -> bool
-        ensures { result ≡ all_ended self.now.table.now self.now.live.now.kids (reverse made.now) }
+    /// The place, among these of the threads that it made, of one that goes on: the first from where one was last seen, else the first of
+    /// all. What stands before that place had ended when it was passed; so however often its step is asked for, none is passed more than
+    /// twice.
+    fn going(&self, made: &[usize]) -> Option<usize>
+        ensures { not (is_some result) ≡ all_ended self.now.table.now self.now.live.now.kids (reverse made.now) }
     {
-        made.iter().rev().all(|k| self.has_ended(*k))
+        match self.going_from(self.live.seen, made) {
+            Some(place) => Some(place),
+            None => self.going_from(0, made),
+        }
+    }
+
+    /// The first place among these, from a place on, of one that goes on.
+    fn going_from(&self, from: usize, made: &[usize]) -> Option<usize>
+        ensures { not (is_some result) ≡ all_ended self.now.table.now self.now.live.now.kids (drop from made.now) }
+    {
+        for place in from..made.len() {
+            if !self.has_ended(made[place]) {
+                return Some(place);
+            }
+        }
+        None
     }
 
     /// Whether of the threads that it made one has ended.

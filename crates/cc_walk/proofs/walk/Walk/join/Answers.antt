@@ -13,8 +13,8 @@ returns c = λ r line ask k asking.
     let w = machine_of c.args.self.now in
     let t = c.args.t in
     let v = value_of c.args.value in
-    let l : Runner = runner_of c.in-Some.live in
-    let was : Some l ≡ Some r = c.in-Some.ensures.live ∙ ap live_of asking.goes in
+    let l : Runner = runner_of c.as_mut-live.result.now in
+    let was : Some l ≡ Some r = ap (λ x. Some (runner_of x)) c.as_mut-live.ensures.value ∙ c.in-Some.ensures.live ∙ ap live_of asking.goes in
     let same : l ≡ r = cc in
     joined_is w t l line ask k (subst (λ (x : Runner). IsAsking w t x line ask k) (sym same) asking) v
     c.answered.new.self c.take.new.self (Over Void) (machine_of c.put_settled.new.self)

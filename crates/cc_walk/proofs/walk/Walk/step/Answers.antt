@@ -1,7 +1,7 @@
 use Rattle.std.proofs.Common.{◌≡◌, ℕ, List, Err, refl, sym, ap, ◌∙◌, subst}
 use Rattle.cc_code.specs.Code.{move}
 use Rattle.code_thread.specs.View.{ask_of}
-use Rattle.numbered_runs.specs.Machine.{Machine, Shelf, thread_in}
+use Rattle.numbered_runs.specs.Machine.{Machine, Shelf, Progress, thread_in}
 use Rattle.numbered_runs.specs.Needs.{needs, check_all}
 use Rattle.numbered_runs.specs.Steps.{step, decide, apply, Waits, Faults, Moves}
 use Rattle.cc_walk.specs.Answered.{IsAnswered}
@@ -13,6 +13,9 @@ use Rattle.cc_walk.specs.declared.walk.Stepped.TheVariants as stepped
 use Rattle.cc_walk.proofs.MoveLaws.{asks_nothing}
 use Rattle.cc_walk.proofs.Outcomes as o
 use Rattle.cc_walk.proofs.walk.Walk.step.Goals as goal
+
+abbrev with_threads : Machine → List (List Progress) → Machine
+with_threads w ts = record { code = w.code; shelves = w.shelves; threads = ts; output = w.output }
 
 pub returns-in_default-clause-step : goal.returns-in_default-clause-step
 returns-in_default-clause-step c = (o.is_gone (machine_of c.args.self.now) c.args.t c.in_default.ensures, refl)
@@ -54,12 +57,12 @@ returns-then-waits-clause-step c =
     let ask = ask_of w.code.shapes c.in-Asks.ask in
     let at = o.is_asking w c.args.t r (o.goes_by (thread_in w.threads c.args.t) r c.in-Some.ensures) line ask (sym c.in-Asks.ensures) in
     let verdict = check_all w c.args.t.processor r (needs w.code.shapes ask) in
-    (o.decides w c.args.t r line ask at.0 at.1 c.in_default-asked.is ∙ ap (decide w c.args.t r line ask at.0) (o.holds verdict (sym (c.if-waits.ensures w.output))), refl)
+    (o.decides w c.args.t r line ask at.0 at.1 c.in_default-asked.is ∙ ap (decide w c.args.t r line ask at.0) (o.holds verdict (sym (c.if-waits.ensures w.output))), ap (with_threads w) c.note_seen.ensures)
 
 pub returns-then-waits-clause-follows : goal.returns-then-waits-clause-follows
 returns-then-waits-clause-follows c = λ p s n st.
     let w = machine_of c.args.self.now in
-    o.follows p w s n st c.args.t stepped.Blocked w (returns-then-waits-clause-step c)
+    o.follows p w s n st c.args.t stepped.Blocked (with_threads w c.note_seen.new.self) (returns-then-waits-clause-step c)
 
 pub returns-in-Ok-clause-step : goal.returns-in-Ok-clause-step
 returns-in-Ok-clause-step c =
