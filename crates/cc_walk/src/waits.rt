@@ -53,8 +53,8 @@ impl Asker<'_> {
     }
 
     /// The place, among these of the threads that it made, of one that goes on: the first from where one was last seen, else the first of
-    /// all. What stands before that place had ended when it was passed; so however often its step is asked for, none is passed more than
-    /// twice.
+    /// all. What stands before that place had ended when it was passed; so however often a step of the thread is asked for, each is passed a
+    /// few times at most.
     fn going(&self, made: &[usize]) -> Option<usize>
         ensures { not (is_some result) ≡ all_ended self.now.table.now self.now.live.now.kids (reverse made.now) }
     {
