@@ -1,54 +1,31 @@
-ghost use Rattle.std.specs.Prelude.{IfOk};
-ghost use Rattle.stack_code.specs.Kept.{IsFunShape};
+//! Tests of `stack_code`: which code is closed, and the fault that is named where it is not.
 
+use crate::crossing::crosses_threads;
+use crate::making::closed;
 use cc_core::Constant;
-use cc_ops::{FunShape, Kind, Op};
-use ccpp_edge::{List, Text};
-use stack_code::{CodeFault, CodeMaker, Instr};
+use cc_ops::{Kind, Op};
+use stack_code::{CodeFault, Instr};
 use std::alloc::{AllocError, Global};
 use std::test::Fail;
 
-/// A function of two variables.
-fn shape(alloc: Global) -> Result<FunShape, AllocError>
-    ensures { IfOk result IsFunShape }
-{
-    Ok(FunShape {
-        name: Text::of(alloc, "main")?,
-        line: 1,
-        params: List::new(alloc),
-        vars: 2,
-        atomic: false,
-    })
-}
-
-/// What `close` says of a function of these instructions.
+/// What `close` says of a function of two variables and these instructions.
 fn fault(alloc: Global, instrs: Vec<Instr>) -> Result<Option<CodeFault>, AllocError> {
-    let mut maker = CodeMaker::new(alloc);
-    maker.function(shape(alloc)?)?;
-    for instr in instrs {
-        maker.push(instr, 1)?;
-    }
-    match maker.close(alloc) {
+    match closed(alloc, "main", 2, instrs) {
         Ok(_) => Ok(None),
         Err(CodeFault::Memory) => Err(AllocError),
         Err(fault) => Ok(Some(fault)),
     }
 }
 
-/// Takes a value that threads may hand over and read at once.
-fn crosses_threads<T: Send + Sync>(_value: &T) {}
-
 #[test]
 fn types_cross_threads(rt: HostRuntime) -> Result<(), Fail> {
     let alloc = rt.alloc();
-    let mut maker = CodeMaker::new(alloc);
-    maker.function(shape(alloc)?)?;
-    maker.push(Instr::Push(Constant::Void), 1)?;
-    maker.push(Instr::Ret, 1)?;
-    if let Ok(code) = maker.close(alloc) {
-        crosses_threads(&code);
-        assert_eq!(rt; code.main(), Some(0));
-    }
+    let instrs = vec![in alloc; Instr::Push(Constant::Void), Instr::Ret]?;
+    let Ok(code) = closed(alloc, "main", 2, instrs) else {
+        return Err(Fail::new("the code is not valid"));
+    };
+    crosses_threads(&code);
+    assert_eq!(rt; code.main(), Some(0));
     Ok(())
 }
 

@@ -4,9 +4,13 @@
 #[cfg(test)]
 mod code;
 #[cfg(test)]
+mod crossing;
+#[cfg(test)]
 mod listing;
 #[cfg(test)]
 mod lowering;
+#[cfg(test)]
+mod making;
 #[cfg(test)]
 mod objects;
 #[cfg(test)]

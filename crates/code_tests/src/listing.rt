@@ -1,36 +1,17 @@
-ghost use Rattle.std.specs.Prelude.{IfOk};
-ghost use Rattle.stack_code.specs.Kept.{IsFunShape};
+//! Tests of `code_listing`: the parts of a print.
 
+use crate::making::closed;
 use cc_core::{Constant, PrintPart};
-use cc_ops::FunShape;
-use ccpp_edge::{Bytes, List, Text};
+use ccpp_edge::{Bytes, List};
 use code_listing::listing;
-use stack_code::{CodeFault, CodeMaker, Instr};
+use stack_code::{CodeFault, Instr};
 use std::alloc::{AllocError, Global};
 use std::test::Fail;
 
-/// A function without variables.
-fn shape(alloc: Global) -> Result<FunShape, AllocError>
-    ensures { IfOk result IsFunShape }
-{
-    Ok(FunShape {
-        name: Text::of(alloc, "C.show")?,
-        line: 1,
-        params: List::new(alloc),
-        vars: 0,
-        atomic: false,
-    })
-}
-
 /// The listing of a function of these instructions, and nothing where they are no valid code.
 fn listed(alloc: Global, instrs: Vec<Instr>) -> Result<Bytes, AllocError> {
-    let mut maker = CodeMaker::new(alloc);
-    maker.function(shape(alloc)?)?;
-    for instr in instrs {
-        maker.push(instr, 1)?;
-    }
     let mut text = Bytes::new(alloc);
-    match maker.close(alloc) {
+    match closed(alloc, "C.show", 0, instrs) {
         Ok(code) => listing(alloc, &code, &mut text)?,
         Err(CodeFault::Memory) => return Err(AllocError),
         Err(_) => {}

@@ -1,33 +1,21 @@
+//! Tests of `cc_lower`: the code of a program.
+
 ghost use Rattle.std.specs.Prelude.{IfOk};
-ghost use Rattle.stack_code.specs.Kept.{IsFunShape};
 ghost use Rattle.cc_lower.specs.Lowerable.{IsLowerable};
 
+use crate::making::shape;
 use cc_core::{Constant, Expression, Function, Program, Statement};
 use cc_lower::lower;
-use cc_ops::FunShape;
-use ccpp_edge::{Bytes, List, Text};
+use ccpp_edge::{Bytes, List};
 use code_listing::listing;
 use std::alloc::{AllocError, Global};
 use std::test::Fail;
-
-/// A function `main` without variables.
-fn shape(alloc: Global) -> Result<FunShape, AllocError>
-    ensures { IfOk result IsFunShape }
-{
-    Ok(FunShape {
-        name: Text::of(alloc, "main")?,
-        line: 1,
-        params: List::new(alloc),
-        vars: 0,
-        atomic: false,
-    })
-}
 
 /// The program `int main() { return 0; }`.
 fn program(alloc: Global) -> Result<Program, AllocError>
     ensures { IfOk result IsLowerable }
 {
-    let shape = shape(alloc)?;
+    let shape = shape(alloc, "main", 0)?;
     let default = Constant::Int(0);
     let mut body = List::new(alloc);
     body.push(Statement::Return(Expression::Push(default)))?;

@@ -1,11 +1,11 @@
+//! Tests of `walk_objects`: objects that are made, read, written and held.
+
+use crate::crossing::crosses_threads;
 use cc_ops::Cell;
 use ccpp_edge::List;
 use global_ptr::{Addr, FaultKind, Value};
 use std::test::Fail;
 use walk_objects::Objects;
-
-/// Takes a value that threads may hand over and read at once.
-fn crosses_threads<T: Send + Sync>(_value: &T) {}
 
 /// The address of a cell of the first object of the second processor.
 fn address(offset: u32) -> Addr {

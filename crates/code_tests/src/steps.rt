@@ -1,7 +1,11 @@
+//! Tests of `code_thread`: stacks, what a thread asks, its silent moves, and the shapes of functions.
+
 ghost use Rattle.std.specs.Prelude.{◌≡◌, ◌+◌, ◌<◌, length, IfOk, OnOk};
 ghost use Rattle.stack_code.specs.Kept.{IsFunShape};
 ghost use Rattle.stack_code.specs.View.{code_of};
 
+use crate::crossing::crosses_threads;
+use crate::making::shape;
 use cc_core::{Constant, PrintPart};
 use cc_ops::{FunShape, Kind, int_of};
 use ccpp_edge::{List, Text};
@@ -10,9 +14,6 @@ use global_ptr::{Addr, Value};
 use stack_code::{Code, CodeMaker, Instr};
 use std::alloc::{AllocError, Global};
 use std::test::Fail;
-
-/// Takes a value that threads may hand over and read at once.
-fn crosses_threads<T: Send + Sync>(_value: &T) {}
 
 #[test]
 fn types_cross_threads(rt: HostRuntime) {
@@ -40,20 +41,18 @@ fn a_stack_has_its_last_item_on_top(rt: HostRuntime) -> Result<(), Fail> {
     Ok(())
 }
 
-/// A function of one variable, with a parameter or without.
-fn shape(alloc: Global, name: &str, line: u32, takes: bool) -> Result<FunShape, AllocError>
+/// An atomic function of a parameter, in the sixth line.
+fn with_parameter(alloc: Global, name: &str) -> Result<FunShape, AllocError>
     ensures { IfOk result IsFunShape }
 {
     let mut params = List::new(alloc);
-    if takes {
-        params.push(List::from_slice(alloc, &[Kind::Int])?)?;
-    }
+    params.push(List::from_slice(alloc, &[Kind::Int])?)?;
     Ok(FunShape {
         name: Text::of(alloc, name)?,
-        line,
+        line: 6,
         params,
         vars: 1,
-        atomic: takes,
+        atomic: true,
     })
 }
 
@@ -100,9 +99,9 @@ fn code(alloc: Global) -> Result<Code, Fail> {
         (1, Instr::Push(Constant::Void)),
         (1, Instr::Ret),
     ]?;
-    add(&mut maker, shape(alloc, "main", 1, false)?, main)?;
+    add(&mut maker, shape(alloc, "main", 1)?, main)?;
     let same = vec![in alloc; (7, Instr::Var(0)), (7, Instr::Load), (7, Instr::Ret)]?;
-    add(&mut maker, shape(alloc, "same", 6, true)?, same)?;
+    add(&mut maker, with_parameter(alloc, "same")?, same)?;
     maker
         .close(alloc)
         .map_err(|_| Fail::new("the code is not valid"))

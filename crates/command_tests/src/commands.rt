@@ -1,3 +1,5 @@
+//! Tests of `ccpp_top`: what each command writes, its status, and the calls that fail.
+
 use ccpp_edge::{Bytes, List, MemShelf, MemSink, NamedBytes, OpenGate, Text};
 use ccpp_top::{Status, Word, ccpp};
 use std::alloc::{AllocError, Global};

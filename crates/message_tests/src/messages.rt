@@ -1,3 +1,6 @@
+//! Tests of `rsr_message`: the bytes and lines of messages, their faults, and streams and files of them.
+
+use crate::crossing::crosses_threads;
 use ccpp_edge::{Bytes, List};
 use rsr_message::{
     Body, FeedFault, ListFault, MessageFault, Request, Splitter, decode, encode, list_messages,
@@ -5,9 +8,6 @@ use rsr_message::{
 };
 use std::alloc::Global;
 use std::test::Fail;
-
-/// Takes a value that threads may hand over and read at once.
-fn crosses_threads<T: Send + Sync>(_value: &T) {}
 
 #[test]
 fn types_cross_threads(rt: HostRuntime) {

@@ -1,10 +1,10 @@
+//! Tests of `marshal`: the bytes of values, and tags that are none.
+
+use crate::crossing::crosses_threads;
 use ccpp_edge::Bytes;
 use global_ptr::{Addr, Value};
 use marshal::{ValueFault, put_value, take_value};
 use std::test::Fail;
-
-/// Takes a value that threads may hand over and read at once.
-fn crosses_threads<T: Send + Sync>(_value: &T) {}
 
 #[test]
 fn values_have_their_bytes(rt: HostRuntime) -> Result<(), Fail> {

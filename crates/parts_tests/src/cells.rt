@@ -1,9 +1,9 @@
+//! Tests of `sync_cells`: how many slots there are, and cells that are assigned once.
+
+use crate::crossing::crosses_threads;
 use global_ptr::{Ready, Spot, Value, Waiter};
 use std::test::Fail;
 use sync_cells::{Cell, Found, MOST_SLOTS, Store, StoreFault, Wrote};
-
-/// Takes a value that threads may hand over and read at once.
-fn crosses_threads<T: Send + Sync>(_value: &T) {}
 
 #[test]
 fn types_cross_threads(rt: HostRuntime) {

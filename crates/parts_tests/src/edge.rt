@@ -1,3 +1,5 @@
+//! Tests of `ccpp_edge`: lists, text and boxes, and files and outputs in memory and of the system.
+
 use ccpp_edge::{
     Boxed, Bytes, Gate, List, MemShelf, MemSink, NamedBytes, OpenGate, RealShelf, RealSink, Shelf,
     ShelfFault, Sink, Text,

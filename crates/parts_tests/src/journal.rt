@@ -1,11 +1,11 @@
+//! Tests of `effect_journal`: texts that are read and written again, and texts that are refused.
+
+use crate::crossing::crosses_threads;
 use ccpp_edge::{Bytes, List};
 use effect_journal::{Entry, JournalFault, read_journal, write_entry, write_header};
 use global_ptr::Standing;
 use std::alloc::{AllocError, Global};
 use std::test::Fail;
-
-/// Takes a value that threads may hand over and read at once.
-fn crosses_threads<T: Send + Sync>(_value: &T) {}
 
 #[test]
 fn types_cross_threads(rt: HostRuntime) {

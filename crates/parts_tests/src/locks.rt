@@ -1,8 +1,8 @@
+//! Tests of `atomic_objects`: who holds an object, and who waits for it.
+
+use crate::crossing::crosses_threads;
 use atomic_objects::{Entered, Locks};
 use std::test::Fail;
-
-/// Takes a value that threads may hand over and read at once.
-fn crosses_threads<T: Send + Sync>(_value: &T) {}
 
 #[test]
 fn types_cross_threads(rt: HostRuntime) {

@@ -1,8 +1,8 @@
+//! Tests of `global_ptr`: the waiters that are ready, and how values and faults are printed.
+
+use crate::crossing::crosses_threads;
 use global_ptr::{Addr, FaultKind, ProgFault, Ready, Spot, Standing, Value, Waiter};
 use std::test::Fail;
-
-/// Takes a value that threads may hand over and read at once.
-fn crosses_threads<T: Send + Sync>(_value: &T) {}
 
 #[test]
 fn types_cross_threads(rt: HostRuntime) {

@@ -1,6 +1,9 @@
+//! Tests of `thread_table`: how many threads and frames there are, operands, and branches that wake their parent.
+
 ghost use Rattle.std.specs.Prelude.{IsTrue, IsSome, OnOk};
 ghost use Rattle.thread_table.specs.Table.{IsLive, level_at};
 
+use crate::crossing::crosses_threads;
 use ccpp_edge::List;
 use global_ptr::{Ready, Value, Waiter};
 use std::alloc::Global;
@@ -8,9 +11,6 @@ use std::test::Fail;
 use thread_table::{
     Asker, Frame, FrameFault, MOST_INSIDE, MOST_THREADS, ThreadFault, ThreadState, Threads,
 };
-
-/// Takes a value that threads may hand over and read at once.
-fn crosses_threads<T: Send + Sync>(_value: &T) {}
 
 #[test]
 fn types_cross_threads(rt: HostRuntime) {

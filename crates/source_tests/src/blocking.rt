@@ -1,3 +1,5 @@
+//! Tests of `cc_blocking`: which functions may block, and atomic ones that do.
+
 use cc_blocking::{Conduct, may_block, note_atomic};
 use cc_names::{Broken, FunId, StaticRule};
 use cc_scopes::Call;

@@ -1,4 +1,4 @@
-//! Tests of what reads and checks a source: tokens, trees, names, operators, and the rules of waiting and sharing.
+//! Tests of what reads and checks a source: tokens, statements, trees, names, operators, and the rules of waiting and sharing.
 #![tactic(auto)]
 
 #[cfg(test)]

@@ -1,3 +1,5 @@
+//! Tests of `cc_names`: the numbers of names, and rules of names that are broken.
+
 use cc_names::{ClassId, FunId, MemberId, Names, StaticLimit, StaticRule, TypeFault};
 use cc_tree::{Base, ClassDecl, Decl, Function, Item, Member, Program, Start, TypeName};
 use ccpp_edge::{List, Text};

@@ -1,3 +1,5 @@
+//! Tests of `cc_ops`: operators, constructors and the shapes of functions.
+
 ghost use Rattle.std.specs.Prelude.{◌≡◌, IfOk};
 ghost use Rattle.cc_ops.specs.Classes.{size};
 

@@ -1,3 +1,5 @@
+//! Tests of `sharing_check`: the rule that is named where several are broken.
+
 use cc_scopes::{Share, ShareRule};
 use sharing_check::{Sharing, sharing_of};
 

@@ -1,3 +1,5 @@
+//! Tests of `cc_lexer`: each kind of token, blanks, faults, limits and escapes.
+
 use cc_lexer::{Keyword, LexFault, MAX_TEXT, Mark, Token, TokenKind, lex, unescaped};
 use std::test::Fail;
 

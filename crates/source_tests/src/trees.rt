@@ -1,3 +1,5 @@
+//! Tests of `cc_parser`: a whole program, and where a text is refused.
+
 use cc_lexer::lex;
 use cc_parser::{ParseFault, line_at, parse};
 use cc_tree::{Item, Program};
