@@ -6,4 +6,4 @@ use Rattle.parts_tests.proofs.threads.fork.Goals as goal
 pub returns : goal.returns
 returns c =
     on_ok_weaker c.spawn.result
-    (λ same. rw same (level-spawned c.args.threads.now c.args.parent c.frame.result c.new.result None c.requires)) c.spawn.ensures.ok
+    (λ same. rw same (level-spawned c.args.threads.now c.args.parent c.frame.result c.new.result None c.requires)) c.spawn.ensures.threads
