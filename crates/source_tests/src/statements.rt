@@ -77,14 +77,23 @@ fn shape(stmt: &Stmt) -> (&'static str, usize) {
     }
 }
 
+/// What `tell` says of what was read.
+fn told<T: Drop, R, S: Fn(&T) -> R>(read: Result<T, Fault>, tell: S) -> Result<R, Fault>
+    requires { S.IsAlwaysCallable tell }
+{
+    let item = read?;
+    Ok(tell(&item))
+}
+
 /// What is read of a text, of how many parts, and how many tokens are left.
 fn outcome(alloc: Global, text: &str, depth: usize) -> (&'static str, usize, usize) {
     let Ok(tokens) = lex(alloc, text.as_bytes()) else {
         return ("no tokens", 0, 0);
     };
     let mut cursor = Cursor::new(tokens.as_slice(), text.as_bytes());
-    let (kind, parts) = match statement(Terms { alloc, depth }, &mut cursor) {
-        Ok(stmt) => shape(&stmt),
+    let read = statement(Terms { alloc, depth }, &mut cursor);
+    let (kind, parts) = match told(read, shape) {
+        Ok(shape) => shape,
         Err(Fault::Syntax) => ("syntax", 0),
         Err(Fault::TooDeep) => ("too deep", 0),
         Err(Fault::Memory) => ("memory", 0),
