@@ -20,7 +20,7 @@ use Rattle.global_ptr.specs.declared.ends.ProgFault.{ProgFault}
 use Rattle.effect_journal.specs.declared.entry.FaultBy.{FaultBy}
 use Rattle.effect_journal.specs.declared.entry.Entry.{Entry}
 use Rattle.effect_journal.specs.declared.entry.Entry.TheVariants.{Run, Serve, Make, End}
-use Rattle.effect_journal.specs.Journal.{Format, hex, line, words, HasLength, AreBytes, IsEntry, Lacks}
+use Rattle.effect_journal.specs.Journal.{IsUpTo, hex, line, words, AreBytes, IsEntry, Lacks}
 use Rattle.effect_journal.specs.Reading.{◌>>=◌, cut, after, natural_of, short_natural_of, negative_of, positive_of, integer_of, hex_value, unhex, request_of, kinds, kind_of, run_of, serve_of, make_of, fault_of, end_of, entry_of, behind, ended}
 use Rattle.effect_journal.proofs.WordLaws.{IsCut, cut_is, cut_again, natural_again, natural_found}
 
@@ -206,26 +206,26 @@ lacks_hex byte (b ∷ bs) low = (above (b / 16), (above (b % 16), lacks_hex byte
 
 -- ---- requests and kinds of faults
 
-request_again : (format : Format) (request : List ℕ) → HasLength format request → AreBytes request → request_of format.longest (hex request) ≡ Some request
+request_again : (longest : ℕ) (request : List ℕ) → IsUpTo longest request → AreBytes request → request_of longest (hex request) ≡ Some request
 unfolding request_of
-request_again format request fits bytes =
-    rw (length_hex request, ne_eqb (2 * length request) 0 (λ e. omega (arith, fits.0)), le-ltb (2 * format.longest) (2 * length request) (omega (arith, fits.1)))
+request_again longest request fits bytes =
+    rw (length_hex request, ne_eqb (2 * length request) 0 (λ e. omega (arith, fits.0)), le-ltb (2 * longest) (2 * length request) (omega (arith, fits.1)))
     (unhex_again request bytes)
 
-request_found : (format : Format) (digits request : List ℕ) → request_of format.longest digits ≡ Some request
-    → (digits ≡ hex request) × HasLength format request × AreBytes request
+request_found : (longest : ℕ) (digits request : List ℕ) → request_of longest digits ≡ Some request
+    → (digits ≡ hex request) × IsUpTo longest request × AreBytes request
 unfolding request_of
-request_found format digits request e = by_case ((length digits == 0) || nat_lt (2 * format.longest) (length digits)) refl e
+request_found longest digits request e = by_case ((length digits == 0) || nat_lt (2 * longest) (length digits)) refl e
   where
-    by_case : (t : Bool) → ((length digits == 0) || nat_lt (2 * format.longest) (length digits)) ≡ t → cond t None (unhex digits) ≡ Some request
-        → (digits ≡ hex request) × HasLength format request × AreBytes request
+    by_case : (t : Bool) → ((length digits == 0) || nat_lt (2 * longest) (length digits)) ≡ t → cond t None (unhex digits) ≡ Some request
+        → (digits ≡ hex request) × IsUpTo longest request × AreBytes request
     by_case true is h = absurd (none-some request h)
     by_case false is h =
         let p = unhex_found digits request h in
-        let q = or_parts (length digits == 0) (nat_lt (2 * format.longest) (length digits)) is in
+        let q = or_parts (length digits == 0) (nat_lt (2 * longest) (length digits)) is in
         let n : length digits ≡ 2 * length request = ap length p.0 ∙ length_hex request in
         let some : length digits ≢ 0 = eqb-false (length digits) 0 q.0 in
-        let most = ltb-false (2 * format.longest) (length digits) q.1 in
+        let most = ltb-false (2 * longest) (length digits) q.1 in
         (p.0, (omega arith, omega arith), p.1)
 
 find_passes : {A : Type 0} (p : A → Bool) (xs : List A) (x : A) → find p xs ≡ Some x → p x ≡ true
@@ -292,9 +292,9 @@ behind_found {P} word read text other e h here there = by_case (after word text)
     by_case (Some rest) is k = here rest (after_found word text rest is) k
 
 -- the text is the line of the entry
-pub record Spells (format : Format) (text : List ℕ) (e : Entry) : Type 0 where
+pub record Spells (longest : ℕ) (text : List ℕ) (e : Entry) : Type 0 where
   pub line : text ≡ line e
-  pub entry : IsEntry format e
+  pub entry : IsEntry (IsUpTo longest) e
 
 run_again : (p t k : ℕ) → p < 2 ^ 32 → t < 2 ^ 32 → 0 < k → k < 2 ^ 64 → run_of (decimal p ++ 32 ∷ (decimal t ++ 32 ∷ decimal k)) ≡ Some (Run p t k)
 unfolding run_of
@@ -312,9 +312,9 @@ run_again p t k small_p small_t some_k small_k =
 spaced : (a b : List ℕ) (text : List ℕ) (parts : List ℕ × List ℕ) → cut 32 text ≡ Some parts → parts.0 ≡ a → parts.1 ≡ b → text ≡ a ++ 32 ∷ b
 spaced a b text parts is is_a is_b = (cut_found 32 text parts is).0 ∙ ap (λ w. w ++ 32 ∷ parts.1) is_a ∙ ap (λ r. a ++ 32 ∷ r) is_b
 
-run_found : (format : Format) (text : List ℕ) (e : Entry) → run_of text ≡ Some e → Spells format (codes "run" ++ 32 ∷ text) e
+run_found : (longest : ℕ) (text : List ℕ) (e : Entry) → run_of text ≡ Some e → Spells longest (codes "run" ++ 32 ∷ text) e
 unfolding run_of
-run_found format text e h =
+run_found longest text e h =
     bound (cut 32 text) _ e h (λ a is_a h. bound (cut 32 a.1) _ e h (λ b is_b h.
     bound (short_natural_of a.0) _ e h (λ p is_p h. bound (short_natural_of b.0) _ e h (λ t is_t h.
     bound (natural_of b.1) _ e h (λ k is_k h.
@@ -323,35 +323,35 @@ run_found format text e h =
     let text_is : text ≡ decimal p ++ 32 ∷ (decimal t ++ 32 ∷ decimal k) =
     spaced (decimal p) (decimal t ++ 32 ∷ decimal k) text a is_a found_p.0 (spaced (decimal t) (decimal k) a.1 b is_b found_t.0 found_k.0) in
     let steps : k ≢ 0 = eqb-false k 0 some.0 in
-    let entry : IsEntry format (Run p t k) = record { has_line = omega arith; fits = (found_p.1, found_t.1, found_k.1) } in
-    subst (Spells format (codes "run" ++ 32 ∷ text)) some.1 (record { line = ap (λ r. codes "run" ++ 32 ∷ r) text_is; entry = entry }))))))
+    let entry : IsEntry (IsUpTo longest) (Run p t k) = record { has_line = omega arith; fits = (found_p.1, found_t.1, found_k.1) } in
+    subst (Spells longest (codes "run" ++ 32 ∷ text)) some.1 (record { line = ap (λ r. codes "run" ++ 32 ∷ r) text_is; entry = entry }))))))
 
-serve_again : (format : Format) (p : ℕ) (request : List ℕ) → p < 2 ^ 32 → HasLength format request → AreBytes request
-    → serve_of format.longest (decimal p ++ 32 ∷ hex request) ≡ Some (Serve p request)
+serve_again : (longest : ℕ) (p : ℕ) (request : List ℕ) → p < 2 ^ 32 → IsUpTo longest request → AreBytes request
+    → serve_of longest (decimal p ++ 32 ∷ hex request) ≡ Some (Serve p request)
 unfolding serve_of
-serve_again format p request small fits bytes =
-    rw (cut_again 32 (decimal p) (hex request) (lacks_decimal 32 p (omega arith) (omega arith)), short_again p small, request_again format request fits bytes) refl
+serve_again longest p request small fits bytes =
+    rw (cut_again 32 (decimal p) (hex request) (lacks_decimal 32 p (omega arith) (omega arith)), short_again p small, request_again longest request fits bytes) refl
 
-serve_found : (format : Format) (text : List ℕ) (e : Entry) → serve_of format.longest text ≡ Some e → Spells format (codes "serve" ++ 32 ∷ text) e
+serve_found : (longest : ℕ) (text : List ℕ) (e : Entry) → serve_of longest text ≡ Some e → Spells longest (codes "serve" ++ 32 ∷ text) e
 unfolding serve_of
-serve_found format text e h =
-    bound (cut 32 text) _ e h (λ a is_a h. bound (short_natural_of a.0) _ e h (λ p is_p h. bound (request_of format.longest a.1) _ e h (λ request is_r h.
-    let found_p = short_found p a.0 is_p in let found_r = request_found format a.1 request is_r in
+serve_found longest text e h =
+    bound (cut 32 text) _ e h (λ a is_a h. bound (short_natural_of a.0) _ e h (λ p is_p h. bound (request_of longest a.1) _ e h (λ request is_r h.
+    let found_p = short_found p a.0 is_p in let found_r = request_found longest a.1 request is_r in
     let text_is : text ≡ decimal p ++ 32 ∷ hex request = spaced (decimal p) (hex request) text a is_a found_p.0 found_r.0 in
-    let entry : IsEntry format (Serve p request) = record { has_line = found_r.1; fits = (found_p.1, found_r.2) } in
-    subst (Spells format (codes "serve" ++ 32 ∷ text)) (same_Some (Serve p request) e h) (record { line = ap (λ r. codes "serve" ++ 32 ∷ r) text_is; entry = entry }))))
+    let entry : IsEntry (IsUpTo longest) (Serve p request) = record { has_line = found_r.1; fits = (found_p.1, found_r.2) } in
+    subst (Spells longest (codes "serve" ++ 32 ∷ text)) (same_Some (Serve p request) e h) (record { line = ap (λ r. codes "serve" ++ 32 ∷ r) text_is; entry = entry }))))
 
-make_again : (format : Format) (request : List ℕ) → HasLength format request → AreBytes request → make_of format.longest (hex request) ≡ Some (Make request)
+make_again : (longest : ℕ) (request : List ℕ) → IsUpTo longest request → AreBytes request → make_of longest (hex request) ≡ Some (Make request)
 unfolding make_of
-make_again format request fits bytes = rw (request_again format request fits bytes) refl
+make_again longest request fits bytes = rw (request_again longest request fits bytes) refl
 
-make_found : (format : Format) (text : List ℕ) (e : Entry) → make_of format.longest text ≡ Some e → Spells format (codes "make" ++ 32 ∷ text) e
+make_found : (longest : ℕ) (text : List ℕ) (e : Entry) → make_of longest text ≡ Some e → Spells longest (codes "make" ++ 32 ∷ text) e
 unfolding make_of
-make_found format text e h =
-    bound (request_of format.longest text) _ e h (λ request is_r h.
-    let found_r = request_found format text request is_r in
-    let entry : IsEntry format (Make request) = record { has_line = found_r.1; fits = found_r.2 } in
-    subst (Spells format (codes "make" ++ 32 ∷ text)) (same_Some (Make request) e h) (record { line = ap (λ r. codes "make" ++ 32 ∷ r) found_r.0; entry = entry }))
+make_found longest text e h =
+    bound (request_of longest text) _ e h (λ request is_r h.
+    let found_r = request_found longest text request is_r in
+    let entry : IsEntry (IsUpTo longest) (Make request) = record { has_line = found_r.1; fits = found_r.2 } in
+    subst (Spells longest (codes "make" ++ 32 ∷ text)) (same_Some (Make request) e h) (record { line = ap (λ r. codes "make" ++ 32 ∷ r) found_r.0; entry = entry }))
 
 fault_again : (fault : ProgFault) (by : FaultBy) → fault.line < 2 ^ 32 → by.processor < 2 ^ 32 → by.thread < 2 ^ 32
     → fault_of (fault_name fault.kind ++ 32 ∷ (codes "line" ++ 32 ∷ (decimal fault.line ++ 32 ∷ (codes "by" ++ 32 ∷ (decimal by.processor ++ 32 ∷ decimal by.thread)))))
@@ -372,9 +372,9 @@ fault_again fault by small_l small_p small_t =
       short_again by.thread small_t,
     ) refl
 
-fault_found : (format : Format) (text : List ℕ) (e : Entry) → fault_of text ≡ Some e → Spells format (codes "end" ++ 32 ∷ (codes "fault" ++ 32 ∷ text)) e
+fault_found : (longest : ℕ) (text : List ℕ) (e : Entry) → fault_of text ≡ Some e → Spells longest (codes "end" ++ 32 ∷ (codes "fault" ++ 32 ∷ text)) e
 unfolding fault_of
-fault_found format text e h =
+fault_found longest text e h =
     bound (cut 32 text) _ e h (λ name is_name h. bound (after (codes "line") name.1) _ e h (λ line is_line h.
     bound (cut 32 line) _ e h (λ place is_place h. bound (after (codes "by") place.1) _ e h (λ by is_by h.
     bound (cut 32 by) _ e h (λ names is_names h. bound (kind_of name.0) _ e h (λ k is_k h. bound (short_natural_of place.0) _ e h (λ l is_l h.
@@ -384,9 +384,9 @@ fault_found format text e h =
     let by_is = after_found (codes "by") place.1 by is_by ∙ ap (λ r. codes "by" ++ 32 ∷ r) names_are in
     let line_is = after_found (codes "line") name.1 line is_line ∙ ap (λ r. codes "line" ++ 32 ∷ r) (spaced (decimal l) _ line place is_place found_l.0 by_is) in
     let text_is = spaced (fault_name k) _ text name is_name (kind_found name.0 k is_k) line_is in
-    let entry : IsEntry format (End (Fault (record { kind = k; line = l })) (Some (record { processor = p; thread = t })))
+    let entry : IsEntry (IsUpTo longest) (End (Fault (record { kind = k; line = l })) (Some (record { processor = p; thread = t })))
     = record { has_line = refl; fits = (found_l.1, (found_p.1, found_t.1)) } in
-    subst (Spells format (codes "end" ++ 32 ∷ (codes "fault" ++ 32 ∷ text))) (same_Some _ e h)
+    subst (Spells longest (codes "end" ++ 32 ∷ (codes "fault" ++ 32 ∷ text))) (same_Some _ e h)
     (record { line = ap (λ r. codes "end" ++ 32 ∷ (codes "fault" ++ 32 ∷ r)) text_is; entry = entry }))))))))))
 
 -- an end without a thread is read behind its word
@@ -394,55 +394,55 @@ ended_found : {A P : Type 0} (standing : A → Standing) (o : Option A) (e : Ent
 ended_found standing None e h go = absurd (none-some e h)
 ended_found standing (Some x) e h go = go x refl (same_Some (End (standing x) None) e h)
 
-end_found : (format : Format) (text : List ℕ) (e : Entry) → end_of text ≡ Some e → Spells format (codes "end" ++ 32 ∷ text) e
+end_found : (longest : ℕ) (text : List ℕ) (e : Entry) → end_of text ≡ Some e → Spells longest (codes "end" ++ 32 ∷ text) e
 unfolding end_of
-end_found format text e h =
+end_found longest text e h =
     behind_found (codes "done") _ text _ e h (λ rest is h. ended_found Done (integer_of rest) e h (λ v is_v same.
     let p = integer_found v rest is_v in
     spells (End (Done v) None) same (ap (λ r. codes "end" ++ 32 ∷ r) (is ∙ ap (λ r. codes "done" ++ 32 ∷ r) p.0)) (record { has_line = refl; fits = (p.1, tt) }))) (λ h.
     behind_found (codes "blocked") _ text _ e h (λ rest is h. ended_found Blocked (natural_of rest) e h (λ k is_k same.
     let p = natural_found k rest is_k in
     spells (End (Blocked k) None) same (ap (λ r. codes "end" ++ 32 ∷ r) (is ∙ ap (λ r. codes "blocked" ++ 32 ∷ r) p.0)) (record { has_line = refl; fits = (p.1, tt) }))) (λ h.
-    behind_found (codes "fault") fault_of text _ e h (λ rest is h. subst (λ t. Spells format (codes "end" ++ 32 ∷ t) e) (sym is) (fault_found format rest e h)) (λ h.
+    behind_found (codes "fault") fault_of text _ e h (λ rest is h. subst (λ t. Spells longest (codes "end" ++ 32 ∷ t) e) (sym is) (fault_found longest rest e h)) (λ h.
     behind_found (codes "limit") _ text _ e h (λ rest is h. ended_found Limit (natural_of rest) e h (λ n is_n same.
     let p = natural_found n rest is_n in
     spells (End (Limit n) None) same (ap (λ r. codes "end" ++ 32 ∷ r) (is ∙ ap (λ r. codes "limit" ++ 32 ∷ r) p.0)) (record { has_line = refl; fits = (p.1, tt) }))) (λ h.
     absurd (none-some e h)))))
   where
-    spells : (f : Entry) → f ≡ e → codes "end" ++ 32 ∷ text ≡ line f → IsEntry format f → Spells format (codes "end" ++ 32 ∷ text) e
-    spells f same is entry = subst (Spells format (codes "end" ++ 32 ∷ text)) same (record { line = is; entry = entry })
+    spells : (f : Entry) → f ≡ e → codes "end" ++ 32 ∷ text ≡ line f → IsEntry (IsUpTo longest) f → Spells longest (codes "end" ++ 32 ∷ text) e
+    spells f same is entry = subst (Spells longest (codes "end" ++ 32 ∷ text)) same (record { line = is; entry = entry })
 
-pub entry_found : (format : Format) (text : List ℕ) (e : Entry) → entry_of format.longest text ≡ Some e → Spells format text e
+pub entry_found : (longest : ℕ) (text : List ℕ) (e : Entry) → entry_of longest text ≡ Some e → Spells longest text e
 unfolding entry_of
-entry_found format text e h =
-    behind_found (codes "run") run_of text _ e h (λ rest is h. subst (λ t. Spells format t e) (sym is) (run_found format rest e h)) (λ h.
-    behind_found (codes "serve") (serve_of format.longest) text _ e h (λ rest is h. subst (λ t. Spells format t e) (sym is) (serve_found format rest e h)) (λ h.
-    behind_found (codes "make") (make_of format.longest) text _ e h (λ rest is h. subst (λ t. Spells format t e) (sym is) (make_found format rest e h)) (λ h.
-    behind_found (codes "end") end_of text _ e h (λ rest is h. subst (λ t. Spells format t e) (sym is) (end_found format rest e h)) (λ h.
+entry_found longest text e h =
+    behind_found (codes "run") run_of text _ e h (λ rest is h. subst (λ t. Spells longest t e) (sym is) (run_found longest rest e h)) (λ h.
+    behind_found (codes "serve") (serve_of longest) text _ e h (λ rest is h. subst (λ t. Spells longest t e) (sym is) (serve_found longest rest e h)) (λ h.
+    behind_found (codes "make") (make_of longest) text _ e h (λ rest is h. subst (λ t. Spells longest t e) (sym is) (make_found longest rest e h)) (λ h.
+    behind_found (codes "end") end_of text _ e h (λ rest is h. subst (λ t. Spells longest t e) (sym is) (end_found longest rest e h)) (λ h.
     absurd (none-some e h)))))
 
 -- the line of an end: its word, a space, and what is read as that end
-record EndsAs (format : Format) (e : Entry) : Type 0 where
+record EndsAs (longest : ℕ) (e : Entry) : Type 0 where
   rest : List ℕ
   line : line e ≡ codes "end" ++ 32 ∷ rest
   read : end_of rest ≡ Some e
 
-end_again : (format : Format) (standing : Standing) (by : Option FaultBy) → IsEntry format (End standing by) → EndsAs format (End standing by)
+end_again : (longest : ℕ) (standing : Standing) (by : Option FaultBy) → IsEntry (IsUpTo longest) (End standing by) → EndsAs longest (End standing by)
 unfolding end_of
-end_again format (Done v) None h =
+end_again longest (Done v) None h =
     record {
       rest = codes "done" ++ 32 ∷ signed_decimal v;
       line = refl;
       read = behind_again (codes "done") _ (signed_decimal v) _ (lacks_by_test 32 (codes "done") refl) ∙ ap (ended Done) (integer_again v h.fits.0);
     }
-end_again format (Blocked k) None h =
+end_again longest (Blocked k) None h =
     record {
       rest = codes "blocked" ++ 32 ∷ decimal k;
       line = refl;
       read = behind_other (codes "done") (codes "blocked") _ (decimal k) _ (lacks_by_test 32 (codes "blocked") refl) refl
           ∙ behind_again (codes "blocked") _ (decimal k) _ (lacks_by_test 32 (codes "blocked") refl) ∙ ap (ended Blocked) (natural_again k h.fits.0);
     }
-end_again format (Fault fault) (Some by) h =
+end_again longest (Fault fault) (Some by) h =
     let rest = fault_name fault.kind ++ 32 ∷ (codes "line" ++ 32 ∷ (decimal fault.line ++ 32 ∷ (codes "by" ++ 32 ∷ (decimal by.processor ++ 32 ∷ decimal by.thread)))) in
     record {
       rest = codes "fault" ++ 32 ∷ rest;
@@ -451,7 +451,7 @@ end_again format (Fault fault) (Some by) h =
           ∙ behind_other (codes "blocked") (codes "fault") _ rest _ (lacks_by_test 32 (codes "fault") refl) refl
           ∙ behind_again (codes "fault") fault_of rest _ (lacks_by_test 32 (codes "fault") refl) ∙ fault_again fault by h.fits.0 h.fits.1.0 h.fits.1.1;
     }
-end_again format (Limit n) None h =
+end_again longest (Limit n) None h =
     record {
       rest = codes "limit" ++ 32 ∷ decimal n;
       line = refl;
@@ -460,33 +460,33 @@ end_again format (Limit n) None h =
           ∙ behind_other (codes "fault") (codes "limit") fault_of (decimal n) _ (lacks_by_test 32 (codes "limit") refl) refl
           ∙ behind_again (codes "limit") _ (decimal n) _ (lacks_by_test 32 (codes "limit") refl) ∙ ap (ended Limit) (natural_again n h.fits.0);
     }
-end_again format (Done v) (Some by) h = absurd (true≢false h.has_line)
-end_again format (Blocked k) (Some by) h = absurd (true≢false h.has_line)
-end_again format (Fault fault) None h = absurd (true≢false (sym h.has_line))
-end_again format (Limit n) (Some by) h = absurd (true≢false h.has_line)
+end_again longest (Done v) (Some by) h = absurd (true≢false h.has_line)
+end_again longest (Blocked k) (Some by) h = absurd (true≢false h.has_line)
+end_again longest (Fault fault) None h = absurd (true≢false (sym h.has_line))
+end_again longest (Limit n) (Some by) h = absurd (true≢false h.has_line)
 
-pub entry_again : (format : Format) (e : Entry) → IsEntry format e → entry_of format.longest (line e) ≡ Some e
+pub entry_again : (longest : ℕ) (e : Entry) → IsEntry (IsUpTo longest) e → entry_of longest (line e) ≡ Some e
 unfolding entry_of
-entry_again format (Run p t k) h =
+entry_again longest (Run p t k) h =
     behind_again (codes "run") run_of (decimal p ++ 32 ∷ (decimal t ++ 32 ∷ decimal k)) _ (lacks_by_test 32 (codes "run") refl)
     ∙ run_again p t k h.fits.0 h.fits.1 h.has_line h.fits.2
-entry_again format (Serve p request) h =
+entry_again longest (Serve p request) h =
     let rest = decimal p ++ 32 ∷ hex request in
     behind_other (codes "run") (codes "serve") run_of rest _ (lacks_by_test 32 (codes "serve") refl) refl
-    ∙ behind_again (codes "serve") (serve_of format.longest) rest _ (lacks_by_test 32 (codes "serve") refl)
-    ∙ serve_again format p request h.fits.0 h.has_line h.fits.1
-entry_again format (Make request) h =
+    ∙ behind_again (codes "serve") (serve_of longest) rest _ (lacks_by_test 32 (codes "serve") refl)
+    ∙ serve_again longest p request h.fits.0 h.has_line h.fits.1
+entry_again longest (Make request) h =
     let rest = hex request in
     behind_other (codes "run") (codes "make") run_of rest _ (lacks_by_test 32 (codes "make") refl) refl
-    ∙ behind_other (codes "serve") (codes "make") (serve_of format.longest) rest _ (lacks_by_test 32 (codes "make") refl) refl
-    ∙ behind_again (codes "make") (make_of format.longest) rest _ (lacks_by_test 32 (codes "make") refl)
-    ∙ make_again format request h.has_line h.fits
-entry_again format (End standing by) h =
-    let e = end_again format standing by h in
-    ap (entry_of format.longest) e.line
+    ∙ behind_other (codes "serve") (codes "make") (serve_of longest) rest _ (lacks_by_test 32 (codes "make") refl) refl
+    ∙ behind_again (codes "make") (make_of longest) rest _ (lacks_by_test 32 (codes "make") refl)
+    ∙ make_again longest request h.has_line h.fits
+entry_again longest (End standing by) h =
+    let e = end_again longest standing by h in
+    ap (entry_of longest) e.line
     ∙ behind_other (codes "run") (codes "end") run_of e.rest _ (lacks_by_test 32 (codes "end") refl) refl
-    ∙ behind_other (codes "serve") (codes "end") (serve_of format.longest) e.rest _ (lacks_by_test 32 (codes "end") refl) refl
-    ∙ behind_other (codes "make") (codes "end") (make_of format.longest) e.rest _ (lacks_by_test 32 (codes "end") refl) refl
+    ∙ behind_other (codes "serve") (codes "end") (serve_of longest) e.rest _ (lacks_by_test 32 (codes "end") refl) refl
+    ∙ behind_other (codes "make") (codes "end") (make_of longest) e.rest _ (lacks_by_test 32 (codes "end") refl) refl
     ∙ behind_again (codes "end") end_of e.rest _ (lacks_by_test 32 (codes "end") refl) ∙ e.read
 
 -- ---- a line has no line feed
@@ -506,16 +506,16 @@ lacks_word word e = lacks_by_test 10 word e
 lacks_number : (n : ℕ) → n < 2 ^ 64 → Lacks 10 (decimal n)
 lacks_number n small = lacks_decimal 10 n (omega arith) small
 
-lacks_words : (format : Format) (e : Entry) → IsEntry format e → AllByRecursion (Lacks 10) (words e)
-lacks_words format (Run p t k) h =
+lacks_words : (allows : List ℕ → Type 0) (e : Entry) → IsEntry allows e → AllByRecursion (Lacks 10) (words e)
+lacks_words allows (Run p t k) h =
     (lacks_word (codes "run") refl, (lacks_number p (omega (arith, h.fits.0)), (lacks_number t (omega (arith, h.fits.1)), (lacks_number k h.fits.2, tt))))
-lacks_words format (Serve p request) h = (lacks_word (codes "serve") refl, (lacks_number p (omega (arith, h.fits.0)), (lacks_hex 10 request (omega arith), tt)))
-lacks_words format (Make request) h = (lacks_word (codes "make") refl, (lacks_hex 10 request (omega arith), tt))
-lacks_words format (End (Done v) None) h =
+lacks_words allows (Serve p request) h = (lacks_word (codes "serve") refl, (lacks_number p (omega (arith, h.fits.0)), (lacks_hex 10 request (omega arith), tt)))
+lacks_words allows (Make request) h = (lacks_word (codes "make") refl, (lacks_hex 10 request (omega arith), tt))
+lacks_words allows (End (Done v) None) h =
     (lacks_word (codes "end") refl, (lacks_word (codes "done") refl, (lacks_integer 10 v (omega arith) h.fits.0, tt)))
-lacks_words format (End (Blocked k) None) h = (lacks_word (codes "end") refl, (lacks_word (codes "blocked") refl, (lacks_number k h.fits.0, tt)))
-lacks_words format (End (Limit n) None) h = (lacks_word (codes "end") refl, (lacks_word (codes "limit") refl, (lacks_number n h.fits.0, tt)))
-lacks_words format (End (Fault fault) (Some by)) h = (
+lacks_words allows (End (Blocked k) None) h = (lacks_word (codes "end") refl, (lacks_word (codes "blocked") refl, (lacks_number k h.fits.0, tt)))
+lacks_words allows (End (Limit n) None) h = (lacks_word (codes "end") refl, (lacks_word (codes "limit") refl, (lacks_number n h.fits.0, tt)))
+lacks_words allows (End (Fault fault) (Some by)) h = (
   lacks_word (codes "end") refl,
   (
     lacks_word (codes "fault") refl,
@@ -534,10 +534,39 @@ lacks_words format (End (Fault fault) (Some by)) h = (
     ),
   ),
 )
-lacks_words format (End (Done v) (Some by)) h = absurd (true≢false h.has_line)
-lacks_words format (End (Blocked k) (Some by)) h = absurd (true≢false h.has_line)
-lacks_words format (End (Fault fault) None) h = absurd (true≢false (sym h.has_line))
-lacks_words format (End (Limit n) (Some by)) h = absurd (true≢false h.has_line)
+lacks_words allows (End (Done v) (Some by)) h = absurd (true≢false h.has_line)
+lacks_words allows (End (Blocked k) (Some by)) h = absurd (true≢false h.has_line)
+lacks_words allows (End (Fault fault) None) h = absurd (true≢false (sym h.has_line))
+lacks_words allows (End (Limit n) (Some by)) h = absurd (true≢false h.has_line)
 
-pub lacks_line : (format : Format) (e : Entry) → IsEntry format e → Lacks 10 (line e)
-lacks_line format e h = lacks_joined (words e) (lacks_words format e h)
+pub lacks_line : (allows : List ℕ → Type 0) (e : Entry) → IsEntry allows e → Lacks 10 (line e)
+lacks_line allows e h = lacks_joined (words e) (lacks_words allows e h)
+
+-- ---- whatever requests are allowed
+
+-- an entry is one where all its requests are allowed, too
+pub entry_weaker : (P Q : List ℕ → Type 0) → ((request : List ℕ) → P request → Q request) → (e : Entry) → IsEntry P e → IsEntry Q e
+entry_weaker P Q more (Run p t k) h = record { has_line = h.has_line; fits = h.fits }
+entry_weaker P Q more (Serve p request) h = record { has_line = more request h.has_line; fits = h.fits }
+entry_weaker P Q more (Make request) h = record { has_line = more request h.has_line; fits = h.fits }
+entry_weaker P Q more (End standing by) h = record { has_line = h.has_line; fits = h.fits }
+
+abbrev request_len : Entry → ℕ
+request_len (Run p t k) = 0
+request_len (Serve p request) = length request
+request_len (Make request) = length request
+request_len (End standing by) = 0
+
+sized : (P : List ℕ → Type 0) → ((request : List ℕ) → P request → 0 < length request) → (n : ℕ) (e : Entry) → request_len e ≤ n → IsEntry P e → IsEntry (IsUpTo n) e
+sized P some n (Run p t k) small h = record { has_line = h.has_line; fits = h.fits }
+sized P some n (Serve p request) small h = record { has_line = (some request h.has_line, small); fits = h.fits }
+sized P some n (Make request) small h = record { has_line = (some request h.has_line, small); fits = h.fits }
+sized P some n (End standing by) small h = record { has_line = h.has_line; fits = h.fits }
+
+-- no two entries have one line
+pub one_entry : (P : List ℕ → Type 0) → ((request : List ℕ) → P request → 0 < length request) → (e f : Entry) → IsEntry P e → IsEntry P f → line e ≡ line f → e ≡ f
+one_entry P some e f is_e is_f same =
+    let n = request_len e + request_len f in
+    let of_e = entry_again n e (sized P some n e (omega arith) is_e) in
+    let of_f = entry_again n f (sized P some n f (omega arith) is_f) in
+    same_Some e f (sym of_e ∙ ap (entry_of n) same ∙ of_f)

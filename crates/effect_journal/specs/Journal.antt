@@ -10,20 +10,32 @@ use Rattle.effect_journal.specs.declared.entry.Entry.{Entry}
 use Rattle.effect_journal.specs.declared.entry.Entry.TheVariants.{Run, Serve, Make, End}
 use Rattle.effect_journal.specs.declared.entry.FaultBy.{FaultBy}
 use Rattle.effect_journal.specs.declared.format.Version.{Version}
-use Rattle.effect_journal.specs.declared.format.Version.TheVariants.{One}
+use Rattle.effect_journal.specs.declared.format.Version.TheVariants.{One, Two}
 use Rattle.effect_journal.specs.declared.read.JournalFault.{JournalFault}
 use Rattle.effect_journal.specs.declared.read.JournalFault.TheVariants.{Line as LineFault, NoEnd, Memory}
 
--- what one version of the text has of its own: its first line, and how many bytes a request has at most
-pub record Format : Type 0 where
+-- what one form of the text has of its own: its first line, and which bytes stand for a request
+pub record Format : Type 1 where
   pub header : List ℕ
-  pub longest : ℕ
+  pub allows : List ℕ → Type 0
+
+-- one byte or more, and so many at most
+abbrev pub IsUpTo : ℕ → List ℕ → Type 0
+IsUpTo n request = (0 < length request) × (length request ≤ n)
+
+abbrev pub longest_of : Version → ℕ
+longest_of One = 126
+longest_of Two = 53271
 
 abbrev pub version_1 : Format
-version_1 = record { header = codes "ccpp journal 1"; longest = 126 }
+version_1 = record { header = codes "ccpp journal 1"; allows = IsUpTo 126 }
+
+abbrev pub version_2 : Format
+version_2 = record { header = codes "ccpp journal 2"; allows = IsUpTo 53271 }
 
 abbrev pub format_of : Version → Format
 format_of One = version_1
+format_of Two = version_2
 
 -- two lower-case digits a byte
 abbrev pub hex : List ℕ → List ℕ
@@ -58,9 +70,6 @@ abbrev pub lines : List Entry → List ℕ
 lines [] = []
 lines (e ∷ es) = line e ++ 10 ∷ lines es
 
-abbrev pub HasLength : Format → List ℕ → Type 0
-HasLength format request = (0 < length request) × (length request ≤ format.longest)
-
 -- a thread is named exactly for a fault
 abbrev pub NamesThread : Standing → Option FaultBy → Type 0
 NamesThread (Done v) by = IsNone by
@@ -68,12 +77,12 @@ NamesThread (Blocked k) by = IsNone by
 NamesThread (Fault fault) by = IsSome by
 NamesThread (Limit n) by = IsNone by
 
--- the entry has a line: a run has a step or more, and a request a length that is allowed
-abbrev pub HasLine : Format → Entry → Type 0
-HasLine format (Run processor thread steps) = 0 < steps
-HasLine format (Serve processor request) = HasLength format request
-HasLine format (Make request) = HasLength format request
-HasLine format (End standing by) = NamesThread standing by
+-- the entry has a line where these requests are allowed: a run has a step or more, and its request is one of them
+abbrev pub HasLine : (List ℕ → Type 0) → Entry → Type 0
+HasLine allows (Run processor thread steps) = 0 < steps
+HasLine allows (Serve processor request) = allows request
+HasLine allows (Make request) = allows request
+HasLine allows (End standing by) = NamesThread standing by
 
 abbrev pub AreBytes : List ℕ → Type 0
 AreBytes bytes = AllByRecursion (λ b. b < 2 ^ 8) bytes
@@ -91,8 +100,8 @@ Fits (Serve processor request) = (processor < 2 ^ 32) × AreBytes request
 Fits (Make request) = AreBytes request
 Fits (End standing by) = StandingFits standing × IfSome by (λ b. (b.processor < 2 ^ 32) × (b.thread < 2 ^ 32))
 
-pub record IsEntry (format : Format) (e : Entry) : Type 0 where
-  pub has_line : HasLine format e
+pub record IsEntry (allows : List ℕ → Type 0) (e : Entry) : Type 0 where
+  pub has_line : HasLine allows e
   pub fits : Fits e
 
 abbrev pub is_end : Entry → Bool
@@ -104,7 +113,7 @@ is_end (End standing by) = true
 -- the text begins with the header and these entries, none of them the end, each on a line of its own, and goes on with the rest
 pub record Begins (format : Format) (entries : List Entry) (text rest : List ℕ) : Type 0 where
   pub spelled : text ≡ format.header ++ 10 ∷ (lines entries ++ rest)
-  pub each : AllByRecursion (IsEntry format) entries
+  pub each : AllByRecursion (IsEntry format.allows) entries
   pub no_end : AllByRecursion (λ e. is_end e ≡ false) entries
 
 -- The text is the journal of these entries: the header, a line for each entry, and the end once and last.
@@ -114,10 +123,13 @@ pub record Journal (format : Format) (entries : List Entry) (text : List ℕ) : 
   pub by : Option FaultBy
   pub all : entries ≡ before ++ End standing by ∷ []
   pub begins : Begins format before text (line (End standing by) ++ 10 ∷ [])
-  pub end : IsEntry format (End standing by)
+  pub end : IsEntry format.allows (End standing by)
 
 abbrev pub Lacks : ℕ → List ℕ → Type 0
 Lacks byte text = AllByRecursion (λ b. b ≢ byte) text
+
+abbrev pub AllowsNoEmpty : Format → Type 0
+AllowsNoEmpty format = (request : List ℕ) → format.allows request → 0 < length request
 
 -- The first line that is not spelled at its place, from 1.
 pub data Misspelled (format : Format) (text : List ℕ) : ℕ → Type 0 where
@@ -125,7 +137,7 @@ pub data Misspelled (format : Format) (text : List ℕ) : ℕ → Type 0 where
   Header : (first rest : List ℕ) → text ≡ first ++ 10 ∷ rest → Lacks 10 first → first ≢ format.header → Misspelled format text 1
   -- a later line is that of no entry
   Line : (entries : List Entry) (next rest : List ℕ) → Begins format entries text (next ++ 10 ∷ rest) → Lacks 10 next
-      → ((e : Entry) → IsEntry format e → next ≢ line e) → Misspelled format text (length entries + 2)
+      → ((e : Entry) → IsEntry format.allows e → next ≢ line e) → Misspelled format text (length entries + 2)
   -- bytes stand behind the end
   Behind : (entries : List Entry) (journal rest : List ℕ) → Journal format entries journal → rest ≢ [] → text ≡ journal ++ rest
       → Misspelled format text (length entries + 2)

@@ -48,7 +48,7 @@ pub struct FaultBy {
 
 impl Entry {
     /// Whether it says how the run ended.
-    pub(crate) fn is_end(&self) -> bool
+    pub fn is_end(&self) -> bool
         ensures { result ≡ is_end self.now }
     {
         matches!(self, Entry::End { .. })

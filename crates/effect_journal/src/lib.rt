@@ -10,6 +10,7 @@ mod words;
 mod write;
 
 pub use entry::{Entry, FaultBy};
+pub use format::Version;
 pub use law::one_answer;
-pub use read::{JournalFault, read_journal};
+pub use read::{JournalFault, next_line, read_entry, read_journal, read_journal_1};
 pub use write::{write_entry, write_header};

@@ -1,6 +1,6 @@
 ghost use Rattle.std.specs.Prelude.{◌≡◌, ◌++◌, ◌∷◌, [], ◌<◌, false, decimal, codes, Some, IfOk, OnOk, OnErr};
 ghost use Rattle.std.specs.Fmt.{digit_glyph, signed_decimal};
-ghost use Rattle.effect_journal.specs.Journal.{HasLine, version_1, hex, line, standing_words, by_words};
+ghost use Rattle.effect_journal.specs.Journal.{HasLine, version_2, hex, line, standing_words, by_words};
 ghost use Rattle.effect_journal.specs.Writing.{spaced};
 
 use crate::entry::{Entry, FaultBy};
@@ -9,20 +9,20 @@ use ccpp_edge::Bytes;
 use global_ptr::Standing;
 use std::alloc::{AllocError, Global};
 
-/// Appends the first line, the header. Want of memory leaves the text as it was.
+/// Appends the first line, the header of version 2. Want of memory leaves the text as it was.
 pub fn write_header(alloc: Global, out: &mut Bytes) -> Result<(), AllocError>
-    ensures ok { OnOk result (out.new ≡ out.old ++ version_1.header ++ 10 ∷ []) }
+    ensures ok { OnOk result (out.new ≡ out.old ++ version_2.header ++ 10 ∷ []) }
     ensures err { OnErr result (out.new ≡ out.old) }
 {
-    let mut line = Bytes::from_slice(alloc, Version::One.header())?;
+    let mut line = Bytes::from_slice(alloc, Version::Two.header())?;
     line.push(b'\n')?;
     out.append(line)?;
     Ok(())
 }
 
-/// Appends the line of an entry. Want of memory leaves the text as it was.
+/// Appends the line of an entry of version 2. Want of memory leaves the text as it was.
 pub fn write_entry(alloc: Global, out: &mut Bytes, entry: &Entry) -> Result<(), AllocError>
-    requires { HasLine version_1 entry.now }
+    requires { HasLine version_2.allows entry.now }
     ensures ok { OnOk result (out.new ≡ out.old ++ line entry.now ++ 10 ∷ []) }
     ensures err { OnErr result (out.new ≡ out.old) }
 {

@@ -1,4 +1,4 @@
-//! Tests of `rsr_message`: the bytes and lines of messages, their faults, and streams and files of them.
+//! Tests of `rsr_message`: the bytes and lines of messages of both versions, their faults, and streams and files of them.
 
 use crate::crossing::crosses_threads;
 use ccpp_edge::{Bytes, List};
@@ -6,7 +6,7 @@ use rsr_message::{
     Body, FeedFault, ListFault, MessageFault, Request, Splitter, decode, encode, list_messages,
     message_line,
 };
-use std::alloc::Global;
+use std::alloc::{AllocError, Global};
 use std::test::Fail;
 
 #[test]
@@ -18,58 +18,52 @@ fn types_cross_threads(rt: HostRuntime) {
     crosses_threads(&FeedFault::Memory);
 }
 
-/// A message, what each of its bytes is, and its line.
-///
-/// `m`, `v` and `k` are the first three bytes, `n` is a byte of a number, `c` a number of values, `t` the tag of a value that is
-/// handed over, and `r` the tag of an answer.
+/// The messages of a request in version 1 and in version 2, and its line.
 struct Case {
-    message: &'static [u8],
-    roles: &'static str,
+    first: &'static [u8],
+    second: &'static [u8],
     line: &'static str,
 }
 
-const GET: &[u8] =
-    b"\x52\x01\x02\x00\x00\x00\x01\x00\x00\x00\x00\x00\x00\x00\x05\x00\x00\x00\x02\x00\x00\x00\x03";
-
 static CASES: [Case; 8] = [
     Case {
-        message: GET,
-        roles: "mvknnnnnnnnnnnnnnnnnnnn",
+        first: b"\x52\x01\x02\x00\x00\x00\x01\x00\x00\x00\x00\x00\x00\x00\x05\x00\x00\x00\x02\x00\x00\x00\x03",
+        second: b"\x52\x02\x02\x00\x00\x00\x01\x00\x00\x00\x00\x00\x00\x00\x05\x00\x00\x00\x02\x00\x00\x00\x03",
         line: "get to 1 from 0 ticket 5 object 2 offset 3\n",
     },
     Case {
-        message: b"\x52\x01\x05\x00\x00\x00\x00\x00\x00\x00\x01\x00\x00\x00\x05\x00",
-        roles: "mvknnnnnnnnnnnnr",
+        first: b"\x52\x01\x05\x00\x00\x00\x00\x00\x00\x00\x01\x00\x00\x00\x05\x00",
+        second: b"\x52\x02\x05\x00\x00\x00\x00\x00\x00\x00\x01\x00\x00\x00\x05\x00",
         line: "reply to 0 from 1 ticket 5 void\n",
     },
     Case {
-        message: b"\x52\x01\x05\x00\x00\x00\x00\xff\xff\xff\xff\x00\x00\x00\x05\x03\x00\x00\x00\x01\x00\x00\x00\x00\x00\x00\x00\x00",
-        roles: "mvknnnnnnnnnnnnrnnnnnnnnnnnn",
+        first: b"\x52\x01\x05\x00\x00\x00\x00\xff\xff\xff\xff\x00\x00\x00\x05\x03\x00\x00\x00\x01\x00\x00\x00\x00\x00\x00\x00\x00",
+        second: b"\x52\x02\x05\x00\x00\x00\x00\xff\xff\xff\xff\x00\x00\x00\x05\x03\x00\x00\x00\x01\x00\x00\x00\x00\x00\x00\x00\x00",
         line: "reply to 0 from 4294967295 ticket 5 1:0:0\n",
     },
     Case {
-        message: b"\x52\x01\x01\x00\x00\x00\x01\x00\x00\x00\x00\x00\x00\x00\x05\x00\x00\x00\x02\x01\x02\x03\x01\xff\xff\xff\xff\xff\xff\xff\xfe\x02\x03\x00\x00\x00\x01\x00\x00\x02\x03\xff\xff\xff\xff",
-        roles: "mvknnnnnnnnnnnnnnnnnnctnnnnnnnnttnnnnnnnnnnnn",
+        first: b"\x52\x01\x01\x00\x00\x00\x01\x00\x00\x00\x00\x00\x00\x00\x05\x00\x00\x00\x02\x01\x02\x03\x01\xff\xff\xff\xff\xff\xff\xff\xfe\x02\x03\x00\x00\x00\x01\x00\x00\x02\x03\xff\xff\xff\xff",
+        second: b"\x52\x02\x01\x00\x00\x00\x01\x00\x00\x00\x00\x00\x00\x00\x05\x00\x00\x00\x02\x01\x02\x00\x03\x01\xff\xff\xff\xff\xff\xff\xff\xfe\x02\x03\x00\x00\x00\x01\x00\x00\x02\x03\xff\xff\xff\xff",
         line: "call to 1 from 0 ticket 5 object 2 handler 258 (-2, null, 1:515:4294967295)\n",
     },
     Case {
-        message: b"\x52\x01\x03\x00\x00\x00\x01\x00\x00\x00\x00\x00\x00\x00\x05\x00\x00\x00\x02\x00\x00\x00\x03\x01\x80\x00\x00\x00\x00\x00\x00\x00",
-        roles: "mvknnnnnnnnnnnnnnnnnnnntnnnnnnnn",
+        first: b"\x52\x01\x03\x00\x00\x00\x01\x00\x00\x00\x00\x00\x00\x00\x05\x00\x00\x00\x02\x00\x00\x00\x03\x01\x80\x00\x00\x00\x00\x00\x00\x00",
+        second: b"\x52\x02\x03\x00\x00\x00\x01\x00\x00\x00\x00\x00\x00\x00\x05\x00\x00\x00\x02\x00\x00\x00\x03\x01\x80\x00\x00\x00\x00\x00\x00\x00",
         line: "put to 1 from 0 ticket 5 object 2 offset 3 -9223372036854775808\n",
     },
     Case {
-        message: b"\x52\x01\x04\xff\xff\xff\xff\x00\x00\x00\x00\x00\x00\x00\x06\x00\x01\x01\x01\x7f\xff\xff\xff\xff\xff\xff\xff",
-        roles: "mvknnnnnnnnnnnnnnctnnnnnnnn",
+        first: b"\x52\x01\x04\xff\xff\xff\xff\x00\x00\x00\x00\x00\x00\x00\x06\x00\x01\x01\x01\x7f\xff\xff\xff\xff\xff\xff\xff",
+        second: b"\x52\x02\x04\xff\xff\xff\xff\x00\x00\x00\x00\x00\x00\x00\x06\x00\x01\x00\x01\x01\x7f\xff\xff\xff\xff\xff\xff\xff",
         line: "make to 4294967295 from 0 ticket 6 class 1 (9223372036854775807)\n",
     },
     Case {
-        message: b"\x52\x01\x06\x00\x00\x00\x01\x00\x00\x00\x00\x00\x00\x00\x07\x00\x00\x00\x00\x00\x09\x00",
-        roles: "mvknnnnnnnnnnnnnnnnnnc",
+        first: b"\x52\x01\x06\x00\x00\x00\x01\x00\x00\x00\x00\x00\x00\x00\x07\x00\x00\x00\x00\x00\x09\x00",
+        second: b"\x52\x02\x06\x00\x00\x00\x01\x00\x00\x00\x00\x00\x00\x00\x07\x00\x00\x00\x00\x00\x09\x00\x00",
         line: "cast to 1 from 0 ticket 7 object 0 handler 9 ()\n",
     },
     Case {
-        message: b"\x52\x01\x06\x00\x00\x00\x02\x00\x00\x00\x01\x00\x00\x00\x00\x00\x00\x00\x00\x00\x00\x02\x02\x02",
-        roles: "mvknnnnnnnnnnnnnnnnnnctt",
+        first: b"\x52\x01\x06\x00\x00\x00\x02\x00\x00\x00\x01\x00\x00\x00\x00\x00\x00\x00\x00\x00\x00\x02\x02\x02",
+        second: b"\x52\x02\x06\x00\x00\x00\x02\x00\x00\x00\x01\x00\x00\x00\x00\x00\x00\x00\x00\x00\x00\x00\x02\x02\x02",
         line: "cast to 2 from 1 ticket 0 object 0 handler 0 (null, null)\n",
     },
 ];
@@ -85,7 +79,7 @@ fn message_len(alloc: Global, bytes: &[u8]) -> Result<usize, MessageFault> {
     Ok(len)
 }
 
-/// The bytes of the request that is read from a message, and behind them its line.
+/// The bytes that are written of the request that is read from a message, and behind them its line.
 fn bytes_and_line(alloc: Global, message: &[u8]) -> Result<Bytes, Fail> {
     let (request, _) = decode(alloc, message)?;
     let mut out = Bytes::new(alloc);
@@ -95,61 +89,127 @@ fn bytes_and_line(alloc: Global, message: &[u8]) -> Result<Bytes, Fail> {
 }
 
 #[test]
-fn a_message_has_its_bytes_and_its_line(rt: HostRuntime) -> Result<(), Fail> {
+fn a_request_has_its_bytes_and_its_line(rt: HostRuntime) -> Result<(), Fail> {
     let alloc = rt.alloc();
-    for Case { message, line, .. } in cases() {
-        let mut wanted = Bytes::from_slice(alloc, message)?;
+    for Case {
+        first,
+        second,
+        line,
+    } in cases() {
+        let mut wanted = Bytes::from_slice(alloc, second)?;
         wanted.extend_from_slice(line.as_bytes())?;
-        let out = bytes_and_line(alloc, message)?;
-        assert_eq!(rt; out.as_slice(), wanted.as_slice(), "{line}");
-        assert_eq!(rt; message_len(alloc, message), Ok(message.len()), "{line}");
-        for len in 0..message.len() {
-            assert_eq!(rt;
-                message_len(alloc, &message[..len]),
-                Err(MessageFault::Short),
-                "{len} bytes of {line}"
-            );
+        for message in [*first, *second] {
+            let out = bytes_and_line(alloc, message)?;
+            assert_eq!(rt; out.as_slice(), wanted.as_slice(), "{line}");
+            assert_eq!(rt; message_len(alloc, message), Ok(message.len()), "{line}");
         }
     }
-    assert_eq!(rt; message_len(alloc, b""), Err(MessageFault::Short));
     Ok(())
 }
 
-/// What is wrong where this byte stands at a place of a message, if anything.
-fn fault_of(role: u8, at: u32, byte: u8) -> Option<MessageFault> {
-    match role {
-        b'm' if byte != 0x52 => Some(MessageFault::BadMagic),
-        b'v' if byte != 1 => Some(MessageFault::BadVersion),
-        b'k' if byte == 0 || byte > 6 => Some(MessageFault::BadKind),
-        b'c' if byte > 8 => Some(MessageFault::BadCount { at }),
-        b't' if byte == 0 || byte > 3 => Some(MessageFault::BadTag { at }),
-        b'r' if byte > 3 => Some(MessageFault::BadTag { at }),
-        _ => None,
+static REFUSED: [(&[u8], MessageFault); 20] = [
+    (b"", MessageFault::Short),
+    (b"\x52\x02", MessageFault::Short),
+    (
+        b"\x52\x02\x02\x00\x00\x00\x01\x00\x00\x00\x00\x00\x00\x00\x05\x00\x00\x00\x02\x00\x00\x00",
+        MessageFault::Short,
+    ),
+    (b"\x51", MessageFault::BadMagic),
+    (b"\x52\x00", MessageFault::BadVersion),
+    (b"\x52\x03", MessageFault::BadVersion),
+    (b"\x52\x02\x00", MessageFault::BadKind),
+    (b"\x52\x01\x07", MessageFault::BadKind),
+    (
+        b"\x52\x01\x01\x00\x00\x00\x01\x00\x00\x00\x00\x00\x00\x00\x05\x00\x00\x00\x02\x01\x02\x09",
+        MessageFault::BadCount { at: 21 },
+    ),
+    (
+        b"\x52\x01\x04\xff\xff\xff\xff\x00\x00\x00\x00\x00\x00\x00\x06\x00\x01\x09",
+        MessageFault::BadCount { at: 17 },
+    ),
+    (
+        b"\x52\x02\x01\x00\x00\x00\x01\x00\x00\x00\x00\x00\x00\x00\x05\x00\x00\x00\x02\x01\x02\x10",
+        MessageFault::Short,
+    ),
+    (
+        b"\x52\x02\x01\x00\x00\x00\x01\x00\x00\x00\x00\x00\x00\x00\x05\x00\x00\x00\x02\x01\x02\x11",
+        MessageFault::BadCount { at: 21 },
+    ),
+    (
+        b"\x52\x02\x01\x00\x00\x00\x01\x00\x00\x00\x00\x00\x00\x00\x05\x00\x00\x00\x02\x01\x02\x10\x01",
+        MessageFault::BadCount { at: 22 },
+    ),
+    (
+        b"\x52\x02\x04\xff\xff\xff\xff\x00\x00\x00\x00\x00\x00\x00\x06\x00\x01\xff\x00",
+        MessageFault::BadCount { at: 17 },
+    ),
+    (
+        b"\x52\x02\x04\xff\xff\xff\xff\x00\x00\x00\x00\x00\x00\x00\x06\x00\x01\x10\xff",
+        MessageFault::BadCount { at: 18 },
+    ),
+    (
+        b"\x52\x02\x01\x00\x00\x00\x01\x00\x00\x00\x00\x00\x00\x00\x05\x00\x00\x00\x02\x01\x02\x00\x02\x00",
+        MessageFault::BadTag { at: 23 },
+    ),
+    (
+        b"\x52\x02\x01\x00\x00\x00\x01\x00\x00\x00\x00\x00\x00\x00\x05\x00\x00\x00\x02\x01\x02\x00\x02\x02\x04",
+        MessageFault::BadTag { at: 24 },
+    ),
+    (
+        b"\x52\x01\x01\x00\x00\x00\x01\x00\x00\x00\x00\x00\x00\x00\x05\x00\x00\x00\x02\x01\x02\x01\x00",
+        MessageFault::BadTag { at: 22 },
+    ),
+    (
+        b"\x52\x02\x03\x00\x00\x00\x01\x00\x00\x00\x00\x00\x00\x00\x05\x00\x00\x00\x02\x00\x00\x00\x03\x00",
+        MessageFault::BadTag { at: 23 },
+    ),
+    (
+        b"\x52\x02\x05\x00\x00\x00\x00\x00\x00\x00\x01\x00\x00\x00\x05\x04",
+        MessageFault::BadTag { at: 15 },
+    ),
+];
+
+#[test]
+fn bytes_are_refused_at_their_first_wrong_one(rt: HostRuntime) {
+    for (bytes, fault) in REFUSED.iter() {
+        assert_eq!(rt; message_len(rt.alloc(), bytes), Err(*fault), "{bytes:?}");
     }
 }
 
-#[test]
-fn each_wrong_byte_is_named(rt: HostRuntime) -> Result<(), Fail> {
-    let alloc = rt.alloc();
-    for Case {
-        message,
-        roles,
-        line,
-    } in cases() {
-        for (at, role) in roles.bytes().enumerate() {
-            assert!(rt; at < message.len() && at < 100);
-            for byte in 0..=255u8 {
-                let mut changed = Bytes::from_slice(alloc, message)?;
-                changed.set(at, byte);
-                let answer = message_len(alloc, changed.as_slice());
-                if let Some(fault) = fault_of(role, at as u32, byte) {
-                    assert_eq!(rt; answer, Err(fault), "{byte} at {at} of {line}");
-                } else if role == b'n' {
-                    assert_eq!(rt; answer, Ok(message.len()), "{byte} at {at} of {line}");
-                }
-            }
-        }
+/// A call of so many addresses in version 2.
+fn call_of(alloc: Global, high: u8, low: u8, values: u32) -> Result<Bytes, Fail> {
+    let mut message = Bytes::from_slice(
+        alloc,
+        b"\x52\x02\x01\x00\x00\x00\x01\x00\x00\x00\x00\x00\x00\x00\x05\x00\x00\x00\x02\x01\x02",
+    )?;
+    message.push(high)?;
+    message.push(low)?;
+    for _ in 0..values {
+        message.extend_from_slice(b"\x03\x00\x00\x00\x01\x00\x00\x00\x02\x00\x00\x00\x03")?;
     }
+    Ok(message)
+}
+
+#[test]
+fn the_longest_message_has_53271_bytes(rt: HostRuntime) -> Result<(), Fail> {
+    let alloc = rt.alloc();
+    let longest = call_of(alloc, 0x10, 0, 4096)?;
+    assert_eq!(rt; message_len(alloc, longest.as_slice()), Ok(53_271));
+    let longer = call_of(alloc, 0x10, 1, 4097)?;
+    assert_eq!(rt;
+        message_len(alloc, longer.as_slice()),
+        Err(MessageFault::BadCount { at: 22 })
+    );
+
+    let [front @ .., last] = longest.as_slice() else {
+        return Err(AllocError.into());
+    };
+    let mut splitter = Splitter::new(alloc);
+    let mut requests = List::new(alloc);
+    splitter.feed(alloc, front, &mut requests)?;
+    assert_eq!(rt; splitter.rest().len(), 53_270);
+    splitter.feed(alloc, &[*last], &mut requests)?;
+    assert_eq!(rt; requests.len(), 1);
     Ok(())
 }
 
@@ -162,19 +222,25 @@ fn lines_of(alloc: Global, requests: &[Request]) -> Result<Bytes, Fail> {
     Ok(lines)
 }
 
-/// All messages, one after another, and all lines.
+/// All messages, one after another, those of a request in both versions, and all lines.
 fn all(alloc: Global) -> Result<(Bytes, Bytes), Fail> {
     let mut messages = Bytes::new(alloc);
     let mut lines = Bytes::new(alloc);
-    for Case { message, line, .. } in cases() {
-        messages.extend_from_slice(message)?;
+    for Case {
+        first,
+        second,
+        line,
+    } in cases() {
+        messages.extend_from_slice(first)?;
+        messages.extend_from_slice(second)?;
+        lines.extend_from_slice(line.as_bytes())?;
         lines.extend_from_slice(line.as_bytes())?;
     }
     Ok((messages, lines))
 }
 
 #[test]
-fn a_stream_may_be_cut_anywhere(rt: HostRuntime) -> Result<(), Fail> {
+fn a_stream_of_both_versions_may_be_cut_anywhere(rt: HostRuntime) -> Result<(), Fail> {
     let alloc = rt.alloc();
     let (stream, lines) = all(alloc)?;
     for cut in 0..=stream.len() {
@@ -190,25 +256,8 @@ fn a_stream_may_be_cut_anywhere(rt: HostRuntime) -> Result<(), Fail> {
     Ok(())
 }
 
-/// The requests of a stream that comes byte by byte.
-fn fed_byte_by_byte(alloc: Global, stream: &[u8]) -> Result<List<Request>, Fail> {
-    let mut splitter = Splitter::new(alloc);
-    let mut requests = List::new(alloc);
-    for byte in stream {
-        splitter.feed(alloc, &[*byte], &mut requests)?;
-    }
-    Ok(requests)
-}
-
-#[test]
-fn a_stream_may_come_byte_by_byte(rt: HostRuntime) -> Result<(), Fail> {
-    let alloc = rt.alloc();
-    let (stream, lines) = all(alloc)?;
-    let requests = fed_byte_by_byte(alloc, stream.as_slice())?;
-    let text = lines_of(alloc, requests.as_slice())?;
-    assert_eq!(rt; text.as_slice(), lines.as_slice());
-    Ok(())
-}
+const GET: &[u8] =
+    b"\x52\x02\x02\x00\x00\x00\x01\x00\x00\x00\x00\x00\x00\x00\x05\x00\x00\x00\x02\x00\x00\x00\x03";
 
 #[test]
 fn a_stream_is_closed_at_its_first_wrong_byte(rt: HostRuntime) -> Result<(), Fail> {
@@ -239,7 +288,7 @@ fn a_file_is_listed_or_its_first_fault_is_named(rt: HostRuntime) -> Result<(), F
     let alloc = rt.alloc();
     let (file, lines) = all(alloc)?;
     let listing = list_messages(alloc, file.as_slice())?;
-    assert_eq!(rt; listing.messages, cases().len());
+    assert_eq!(rt; listing.messages, 2 * cases().len());
     assert_eq!(rt; listing.lines.as_slice(), lines.as_slice());
     assert_eq!(rt; list_messages(alloc, b"")?.messages, 0);
 
@@ -250,8 +299,8 @@ fn a_file_is_listed_or_its_first_fault_is_named(rt: HostRuntime) -> Result<(), F
         list_messages(alloc, cut.as_slice()).err(),
         Some(ListFault::No { fault, at })
     );
-    cut.set(25, 7);
-    let (fault, at) = (MessageFault::BadKind, 25);
+    cut.set(24, 3);
+    let (fault, at) = (MessageFault::BadVersion, 24);
     assert_eq!(rt;
         list_messages(alloc, cut.as_slice()).err(),
         Some(ListFault::No { fault, at })

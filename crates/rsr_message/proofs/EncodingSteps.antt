@@ -1,13 +1,13 @@
 -- Steps of the code that puts requests into bytes.
-use Rattle.std.proofs.Common.{◌≡◌, ◌≢◌, ℕ, ◌+◌, ◌<◌, ◌≤◌, List, [], ◌∷◌, ◌++◌, length, drop, get_or, refl, sym, ◌∙◌, ap, subst, arith, All}
-use Rattle.std.specs.Int.{w8, w32}
-use Rattle.std.proofs.lemmas.List.{append-nil, append_assoc, drop_more, drop_all}
+use Rattle.std.proofs.Common.{◌≡◌, ◌≢◌, ℕ, ◌+◌, ◌≤◌, List, [], ◌∷◌, ◌++◌, length, drop, refl, sym, ◌∙◌, ap, subst}
+use Rattle.std.specs.Int.{w16, w32}
+use Rattle.std.proofs.lemmas.List.{append-nil, append_assoc, drop_all}
 use Rattle.global_ptr.specs.declared.values.Value.{Value}
 use Rattle.global_ptr.specs.declared.values.Value.TheVariants.{Void}
 use Rattle.marshal.specs.Spellings.{IsByte, IsNumber, ◌▸◌, Puts, Extends}
 use Rattle.marshal.specs.Values.{SpellsValue}
 use Rattle.marshal.proofs.Steps.{puts_follow, puts_byte}
-use Rattle.rsr_message.specs.Requests.{version_1, SpellsGiven, SpellsEach, SpellsCount, SpellsList, SpellsBody, Spells, kind_byte}
+use Rattle.rsr_message.specs.Requests.{version_2, SpellsGiven, SpellsEach, SpellsCount, SpellsList, SpellsBody, Spells, kind_byte}
 use Rattle.rsr_message.specs.Shapes.{byte_of, kind_of}
 use Rattle.rsr_message.specs.declared.requests.Request.{Request}
 use Rattle.rsr_message.specs.declared.requests.Body.{Body}
@@ -19,15 +19,14 @@ puts_given v old new some put = record { spelling = put.spelling; spelled = reco
 -- the number of values and the first of them are put: the others make a list of it
 pub record ListSoFar (args : List Value) (n : ℕ) (old out : List ℕ) : Type 0 where
   pub extends : Extends old out
-  pub rest : (new : List ℕ) → Puts (SpellsEach (drop n args)) out new → Puts (SpellsList version_1 args) old new
+  pub rest : (new : List ℕ) → Puts (SpellsEach (drop n args)) out new → Puts (SpellsList version_2 args) old new
 
 -- the number is put
-pub list_begun : (args : List Value) (old out : List ℕ) → length args ≤ 8 → out ≡ old ++ length args ∷ [] → ListSoFar args 0 old out
+pub list_begun : (args : List Value) (old out : List ℕ) → length args ≤ 4096 → Puts (IsNumber w16 (length args)) old out → ListSoFar args 0 old out
 list_begun args old out few put = record {
-  extends = (length args ∷ [], put);
+  extends = (put.spelling, put.whole);
   rest = λ new each.
-      let number : IsNumber w8 (length args) (length args ∷ []) = record { fits = omega arith; big_endian = ap (λ n. n ∷ []) (omega arith) } in
-      puts_follow (SpellsCount version_1 (length args)) (SpellsEach args) old out new (record { spelling = length args ∷ []; spelled = record { few = few; number = number }; whole = put }) each;
+      puts_follow (SpellsCount version_2 (length args)) (SpellsEach args) old out new (record { spelling = put.spelling; spelled = record { few = few; number = put.spelled }; whole = put.whole }) each;
 }
 
 -- one more value is put
@@ -40,7 +39,7 @@ list_more args n v old out new so_far cut some put = record {
 }
 
 -- all values are put
-pub list_done : (args : List Value) (n : ℕ) (old out : List ℕ) → length args ≤ n → ListSoFar args n old out → Puts (SpellsList version_1 args) old out
+pub list_done : (args : List Value) (n : ℕ) (old out : List ℕ) → length args ≤ n → ListSoFar args n old out → Puts (SpellsList version_2 args) old out
 list_done args n old out all so_far =
     so_far.rest out (subst (λ vs. Puts (SpellsEach vs) out out) (sym (drop_all n args all)) (record { spelling = []; spelled = refl; whole = sym (append-nil out) }))
 
@@ -54,14 +53,14 @@ same_byte (body.Cast object handler args) = refl
 
 -- three bytes, three numbers and a body are put
 pub request_put : (r : Request) (out0 out1 out2 out3 out4 out5 out6 new : List ℕ) (kind_put : ℕ) →
-    out1 ≡ out0 ++ 0x52 ∷ [] → out2 ≡ out1 ++ 1 ∷ [] → out3 ≡ out2 ++ kind_put ∷ [] → kind_put ≡ byte_of (kind_of r.body) →
+    out1 ≡ out0 ++ 0x52 ∷ [] → out2 ≡ out1 ++ 2 ∷ [] → out3 ≡ out2 ++ kind_put ∷ [] → kind_put ≡ byte_of (kind_of r.body) →
     Puts (IsNumber w32 r.to) out3 out4 → Puts (IsNumber w32 r.from) out4 out5 → Puts (IsNumber w32 r.ticket) out5 out6 →
-    Puts (SpellsBody version_1 r.body) out6 new → Puts (Spells version_1 r) out0 new
+    Puts (SpellsBody version_2 r.body) out6 new → Puts (Spells version_2 r) out0 new
 request_put r out0 out1 out2 out3 out4 out5 out6 new kind_put magic version kind is to from ticket body =
     let byte : out3 ≡ out2 ++ kind_byte r.body ∷ [] = kind ∙ ap (λ b. out2 ++ b ∷ []) (is ∙ same_byte r.body) in
-    let P : List ℕ → Type 0 = SpellsBody version_1 r.body in
-    puts_follow (IsByte 0x52) (IsByte 1 ▸ IsByte (kind_byte r.body) ▸ IsNumber w32 r.to ▸ IsNumber w32 r.from ▸ IsNumber w32 r.ticket ▸ P) _ _ _ (puts_byte 0x52 out0 out1 magic)
-    (puts_follow (IsByte 1) (IsByte (kind_byte r.body) ▸ IsNumber w32 r.to ▸ IsNumber w32 r.from ▸ IsNumber w32 r.ticket ▸ P) _ _ _ (puts_byte 1 out1 out2 version)
+    let P : List ℕ → Type 0 = SpellsBody version_2 r.body in
+    puts_follow (IsByte 0x52) (IsByte 2 ▸ IsByte (kind_byte r.body) ▸ IsNumber w32 r.to ▸ IsNumber w32 r.from ▸ IsNumber w32 r.ticket ▸ P) _ _ _ (puts_byte 0x52 out0 out1 magic)
+    (puts_follow (IsByte 2) (IsByte (kind_byte r.body) ▸ IsNumber w32 r.to ▸ IsNumber w32 r.from ▸ IsNumber w32 r.ticket ▸ P) _ _ _ (puts_byte 2 out1 out2 version)
     (puts_follow (IsByte (kind_byte r.body)) (IsNumber w32 r.to ▸ IsNumber w32 r.from ▸ IsNumber w32 r.ticket ▸ P) _ _ _ (puts_byte (kind_byte r.body) out2 out3 byte)
     (puts_follow (IsNumber w32 r.to) (IsNumber w32 r.from ▸ IsNumber w32 r.ticket ▸ P) _ _ _ to
     (puts_follow (IsNumber w32 r.from) (IsNumber w32 r.ticket ▸ P) _ _ _ from

@@ -1,7 +1,7 @@
 -- What is found behind a front of the bytes holds of all of them.
-use Rattle.std.proofs.Common.{◌≡◌, ℕ, ◌+◌, ◌<◌, List, [], ◌∷◌, ◌++◌, length, refl, sym, ◌∙◌, ap, subst, arith, append_assoc, length-append}
+use Rattle.std.proofs.Common.{◌≡◌, ℕ, ◌+◌, List, [], ◌∷◌, ◌++◌, length, refl, sym, ◌∙◌, ap, subst, arith, append_assoc, length-append}
 use Rattle.std.proofs.lemmas.List.{append_cancel_left}
-use Rattle.marshal.specs.Spellings.{Follows, ◌▸◌, BeginsWith, IsPartial, IsWrongAt, IsPrefixFree}
+use Rattle.marshal.specs.Spellings.{◌▸◌, BeginsWith, IsPartial, IsWrongAt, IsPrefixFree}
 use Rattle.marshal.proofs.Laws.{wrong_is_not_whole}
 
 -- The bytes are a front of this length and the rest, and whatever the rest is of Q, with that front it is of P.

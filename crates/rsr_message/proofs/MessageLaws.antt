@@ -1,18 +1,18 @@
 -- No message begins another, and what begins with none.
-use Rattle.std.proofs.Common.{◌≡◌, ◌≢◌, ℕ, suc, zero, ◌+◌, ◌<◌, ◌≤◌, List, [], ◌∷◌, ◌++◌, length, replicate, refl, sym, ◌∙◌, ap, subst, arith, append_assoc, length-append}
-use Rattle.std.specs.Int.{Width, byte_len, to_be_bytes}
-use Rattle.std.proofs.lemmas.List.{append-nil}
+use Rattle.std.proofs.Common.{◌≡◌, ℕ, suc, zero, ◌≤◌, List, [], ◌∷◌, ◌++◌, length, refl, sym, ◌∙◌, ap, subst, arith, append_assoc}
+use Rattle.std.specs.Int.{byte_len}
 use Rattle.global_ptr.specs.declared.values.Value.{Value}
-use Rattle.global_ptr.specs.declared.values.Value.TheVariants.{Void, Null}
-use Rattle.marshal.specs.Spellings.{IsByte, IsNumber, IsBytes, AnyBytes, Follows, ◌▸◌, BeginsWith, IsPartial, IsWrongAt, IsPrefixFree}
-use Rattle.marshal.specs.Values.{SpellsValue, IsValue}
+use Rattle.global_ptr.specs.declared.values.Value.TheVariants.{Null}
+use Rattle.marshal.specs.Spellings.{IsNumber, AnyBytes, ◌▸◌, IsPrefixFree}
 use Rattle.marshal.proofs.Laws.{same_cut, free_follows}
-use Rattle.marshal.proofs.NumberLaws.{IsBytes-append, IsBytes-zeros, ReadsBack, one_number, filled, length-number}
-use Rattle.marshal.proofs.ValueLaws.{IsOne, one_pair, one_value, IsValue-free, nothing_is_partial}
+use Rattle.marshal.proofs.NumberLaws.{ReadsBack, reads_back_8, reads_back_16, one_number, length-number}
+use Rattle.marshal.proofs.ValueLaws.{one_value, IsValue-free}
 use Rattle.rsr_message.specs.declared.kinds.Kind.{Kind}
 use Rattle.rsr_message.specs.declared.kinds.Kind.TheVariants as kind
-use Rattle.rsr_message.specs.Requests.{Format, SpellsGiven, SpellsEach, SpellsCount, SpellsList, IsMessage}
-use Rattle.rsr_message.specs.Shapes.{kind_of, byte_of, fields_len, IsHead, IsNothing, IsGiven, IsEach, IsList, IsTail, HasShape}
+use Rattle.rsr_message.specs.declared.versions.Version.{Version}
+use Rattle.rsr_message.specs.declared.versions.Version.TheVariants.{One, Two}
+use Rattle.rsr_message.specs.Requests.{Format, format_of, SpellsEach, SpellsCount, IsMessage}
+use Rattle.rsr_message.specs.Shapes.{kind_of, byte_of, fields_len, IsGiven, IsEach, IsCount, IsList, IsTail}
 use Rattle.rsr_message.proofs.Leads.{Leads}
 use Rattle.rsr_message.proofs.ShapeLaws.{spelled_shape, shaped_message}
 
@@ -59,7 +59,21 @@ some_each (suc n) =
     let null : IsGiven (2 ∷ []) = (Null, record { some = λ is. cc; spelled = refl }) in
     (2 ∷ more.0, cons_each n (2 ∷ more.0) (record { front = 2 ∷ []; back = more.0; first = null; second = more.1; whole = refl }))
 
+-- the number of a list's values can be read in each version
+pub back_of : (v : Version) → ReadsBack (format_of v).count
+back_of One = reads_back_8
+back_of Two = reads_back_16
+
+-- no two versions have one byte
+pub one_version : (v w : Version) → (format_of v).version ≡ (format_of w).version → v ≡ w
+one_version One One e = refl
+one_version Two Two e = refl
+one_version v w e = absurd (omega arith)
+
 module _ (f : Format) (back : ReadsBack f.count) where
+  pub IsCount-free : IsPrefixFree (IsCount f)
+  IsCount-free s t x y p q e = let one = one_number f.count back p.0 q.0 s t x y p.1.number q.1.number e in one.1
+
   -- the number of values is read
   pub list_leads : (n : ℕ) (bytes front rest : List ℕ) → n ≤ f.most → IsNumber f.count n front → bytes ≡ front ++ rest → Leads (IsList f) (IsEach n) bytes rest (byte_len f.count)
   list_leads n bytes front rest few number cut = record {
@@ -109,40 +123,57 @@ one_kind kind.Reply kind.Reply e = refl
 one_kind kind.Cast kind.Cast e = refl
 one_kind k l e = absurd (omega arith)
 
--- the three bytes with which a message begins
-pub message_head : (f : Format) (bytes : List ℕ) → IsMessage f bytes → (k : Kind) × (behind : List ℕ) × (bytes ≡ 0x52 ∷ f.version ∷ byte_of k ∷ behind) × (AnyBytes (fields_len k) ▸ IsTail f k) behind
-message_head f bytes m =
-    let shape = spelled_shape f m.0 bytes m.1 in
-    (kind_of m.0.body, shape.back, shape.whole ∙ ap (λ l. l ++ shape.back) shape.first, shape.second)
+-- the three bytes with which a message begins, and what its shape says of the others
+pub record HasHead (bytes : List ℕ) : Type 0 where
+  pub version : Version
+  pub kind : Kind
+  pub behind : List ℕ
+  pub whole : bytes ≡ 0x52 ∷ (format_of version).version ∷ byte_of kind ∷ behind
+  pub shape : (AnyBytes (fields_len kind) ▸ IsTail (format_of version) kind) behind
 
-pub headed : (f : Format) (k : Kind) (back : List ℕ) → (AnyBytes (fields_len k) ▸ IsTail f k) back → IsMessage f (0x52 ∷ f.version ∷ byte_of k ∷ back)
-headed f k back shape = shaped_message f k _ (record { front = 0x52 ∷ f.version ∷ byte_of k ∷ []; back = back; first = refl; second = shape; whole = refl })
+pub message_head : (bytes : List ℕ) → IsMessage bytes → HasHead bytes
+message_head bytes m =
+    let shape = spelled_shape (format_of m.1.version) m.0 bytes m.1.spelled in
+    record { version = m.1.version; kind = kind_of m.0.body; behind = shape.back; whole = shape.whole ∙ ap (λ l. l ++ shape.back) shape.first; shape = shape.second }
 
--- behind the head of a kind stands what its shape says
-pub head_leads : (f : Format) (k : Kind) (bytes rest : List ℕ) → bytes ≡ 0x52 ∷ f.version ∷ byte_of k ∷ rest → Leads (IsMessage f) (AnyBytes (fields_len k) ▸ IsTail f k) bytes rest 3
-head_leads f k bytes rest cut = record {
-  front = 0x52 ∷ f.version ∷ byte_of k ∷ [];
+pub headed : (v : Version) (k : Kind) (back : List ℕ) → (AnyBytes (fields_len k) ▸ IsTail (format_of v) k) back → IsMessage (0x52 ∷ (format_of v).version ∷ byte_of k ∷ back)
+headed v k back shape = shaped_message v k _ (record { front = 0x52 ∷ (format_of v).version ∷ byte_of k ∷ []; back = back; first = refl; second = shape; whole = refl })
+
+-- behind a head stands what the shape of its version and kind says
+pub same_shape : (v w : Version) (k l : Kind) (behind after : List ℕ) → 0x52 ∷ (format_of v).version ∷ byte_of k ∷ behind ≡ 0x52 ∷ (format_of w).version ∷ byte_of l ∷ after
+    → (v ≡ w) × (k ≡ l) × (behind ≡ after)
+same_shape v w k l behind after e =
+    let versions_are : (format_of v).version ≡ (format_of w).version = cc in
+    let bytes_are : byte_of k ≡ byte_of l = cc in
+    let backs : behind ≡ after = cc in
+    (one_version v w versions_are, one_kind k l bytes_are, backs)
+
+pub head_leads : (v : Version) (k : Kind) (bytes rest : List ℕ) → bytes ≡ 0x52 ∷ (format_of v).version ∷ byte_of k ∷ rest → Leads IsMessage (AnyBytes (fields_len k) ▸ IsTail (format_of v) k) bytes rest 3
+head_leads v k bytes rest cut = record {
+  front = 0x52 ∷ (format_of v).version ∷ byte_of k ∷ [];
   long = refl;
   cut = cut;
-  whole = λ back shape. headed f k back shape;
-  only = λ back m. only back (message_head f _ m);
+  whole = λ back shape. headed v k back shape;
+  only = λ back m. only back (message_head _ m);
 }
   where
-    only : (back : List ℕ) → ((l : Kind) × (behind : List ℕ) × (0x52 ∷ f.version ∷ byte_of k ∷ back ≡ 0x52 ∷ f.version ∷ byte_of l ∷ behind) × (AnyBytes (fields_len l) ▸ IsTail f l) behind) → (AnyBytes (fields_len k) ▸ IsTail f k) back
-    only back (l, behind, is, shape) =
-        let bytes_are : byte_of k ≡ byte_of l = cc in
-        let kinds : k ≡ l = one_kind k l bytes_are in
-        let backs : back ≡ behind = cc in
-        subst (λ j. (AnyBytes (fields_len j) ▸ IsTail f j) back) (sym kinds) (subst (AnyBytes (fields_len l) ▸ IsTail f l) (sym backs) shape)
+    only : (back : List ℕ) → HasHead (0x52 ∷ (format_of v).version ∷ byte_of k ∷ back) → (AnyBytes (fields_len k) ▸ IsTail (format_of v) k) back
+    only back h =
+        let same = same_shape v h.version k h.kind back h.behind h.whole in
+        subst (λ u. (AnyBytes (fields_len k) ▸ IsTail (format_of u) k) back) (sym same.0)
+        (subst (λ j. (AnyBytes (fields_len j) ▸ IsTail (format_of h.version) j) back) (sym same.1)
+        (subst (AnyBytes (fields_len h.kind) ▸ IsTail (format_of h.version) h.kind) (sym same.2) h.shape))
 
-pub IsMessage-free : (f : Format) → ReadsBack f.count → IsPrefixFree (IsMessage f)
-IsMessage-free f back s t x y p q e = by (message_head f s p) (message_head f t q)
+pub IsMessage-free : IsPrefixFree IsMessage
+IsMessage-free s t x y p q e = by (message_head s p) (message_head t q)
   where
-    by : ((k : Kind) × (behind : List ℕ) × (s ≡ 0x52 ∷ f.version ∷ byte_of k ∷ behind) × (AnyBytes (fields_len k) ▸ IsTail f k) behind) → ((l : Kind) × (after : List ℕ) × (t ≡ 0x52 ∷ f.version ∷ byte_of l ∷ after) × (AnyBytes (fields_len l) ▸ IsTail f l) after) → s ≡ t
-    by (k, behind, s_is, shape) (l, after, t_is, other) =
-        let both : 0x52 ∷ f.version ∷ byte_of k ∷ (behind ++ x) ≡ 0x52 ∷ f.version ∷ byte_of l ∷ (after ++ y) = ap (λ b. b ++ x) (sym s_is) ∙ e ∙ ap (λ b. b ++ y) t_is in
-        let bytes_are : byte_of k ≡ byte_of l = cc in
-        let kinds : k ≡ l = one_kind k l bytes_are in
-        let backs : behind ++ x ≡ after ++ y = cc in
-        let same : behind ≡ after = shape_free f back l behind after x y (subst (λ j. (AnyBytes (fields_len j) ▸ IsTail f j) behind) kinds shape) other backs in
-        s_is ∙ cc (bytes_are, same) ∙ sym t_is
+    by : HasHead s → HasHead t → s ≡ t
+    by h g =
+        let same = same_shape h.version g.version h.kind g.kind (h.behind ++ x) (g.behind ++ y) (ap (λ b. b ++ x) (sym h.whole) ∙ e ∙ ap (λ b. b ++ y) g.whole) in
+        let shape : (AnyBytes (fields_len g.kind) ▸ IsTail (format_of g.version) g.kind) h.behind =
+        subst (λ u. (AnyBytes (fields_len g.kind) ▸ IsTail (format_of u) g.kind) h.behind) same.0
+        (subst (λ j. (AnyBytes (fields_len j) ▸ IsTail (format_of h.version) j) h.behind) same.1 h.shape) in
+        let backs : h.behind ≡ g.behind = shape_free (format_of g.version) (back_of g.version) g.kind h.behind g.behind x y shape g.shape same.2 in
+        let versions : (format_of h.version).version ≡ (format_of g.version).version = ap (λ u. (format_of u).version) same.0 in
+        let kinds : byte_of h.kind ≡ byte_of g.kind = ap byte_of same.1 in
+        h.whole ∙ cc (versions, kinds, backs) ∙ sym g.whole

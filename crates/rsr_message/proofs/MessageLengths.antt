@@ -1,6 +1,6 @@
 -- How long messages are.
 use Rattle.std.proofs.Common.{◌≡◌, ℕ, ◌+◌, ◌*◌, ◌<◌, ◌≤◌, List, [], ◌∷◌, ◌++◌, length, ap, ◌∙◌, arith, length-append}
-use Rattle.std.specs.Int.{Width, w8, w16, w32, byte_len}
+use Rattle.std.specs.Int.{w16, w32, byte_len}
 use Rattle.global_ptr.specs.declared.values.Spot.{Spot}
 use Rattle.global_ptr.specs.declared.values.Value.{Value}
 use Rattle.marshal.specs.Spellings.{IsByte, IsNumber, ◌▸◌, IsPartial}
@@ -10,7 +10,9 @@ use Rattle.marshal.proofs.ValueLaws.{length-value}
 use Rattle.rsr_message.specs.declared.requests.Request.{Request}
 use Rattle.rsr_message.specs.declared.requests.Body.{Body}
 use Rattle.rsr_message.specs.declared.requests.Body.TheVariants.{Call, Get, Put, Make, Reply, Cast}
-use Rattle.rsr_message.specs.Requests.{version_1, SpellsGiven, SpellsEach, SpellsCount, SpellsList, SpellsSpot, SpellsCall, SpellsBody, Spells, IsMessage, kind_byte}
+use Rattle.rsr_message.specs.declared.versions.Version.{Version}
+use Rattle.rsr_message.specs.declared.versions.Version.TheVariants.{One, Two}
+use Rattle.rsr_message.specs.Requests.{Format, version_1, version_2, format_of, SpellsGiven, SpellsEach, SpellsList, SpellsSpot, SpellsCall, SpellsBody, Spells, IsMessage, kind_byte}
 
 -- a set of lists of so many bytes at most
 abbrev IsUpTo : ℕ → (List ℕ → Type 0) → Type 0
@@ -49,36 +51,54 @@ upto_each (v ∷ vs) bytes s =
     let back = upto_each vs s.back s.second in
     omega arith
 
-upto_list : (vs : List Value) → IsUpTo 105 (SpellsList version_1 vs)
-upto_list vs bytes s =
-    let few = s.first.few in
-    let count = length-number w8 (length vs) s.front s.first.number in
-    let each = upto_each vs s.back s.second in
-    let parts = ap length s.whole ∙ length-append s.front s.back in
-    omega arith
-
 upto_spot : (spot : Spot) → IsUpTo 8 (SpellsSpot spot)
 upto_spot spot = upto_follows 4 4 _ _ (upto_32 spot.object) (upto_32 spot.offset)
 
-upto_call : (object handler : ℕ) (args : List Value) → IsUpTo 111 (SpellsCall version_1 object handler args)
-upto_call object handler args = upto_follows 4 107 _ _ (upto_32 object) (upto_follows 2 105 _ _ (upto_16 handler) (upto_list args))
+-- how many bytes a format's longest list has, and what else a message has at most
+module _ (f : Format) (n : ℕ) (most : byte_len f.count + 13 * f.most ≤ n) (other : 15 ≤ n) where
+  upto_list : (vs : List Value) → IsUpTo n (SpellsList f vs)
+  upto_list vs bytes s =
+      let few = s.first.few in
+      let count = length-number f.count (length vs) s.front s.first.number in
+      let each = upto_each vs s.back s.second in
+      let parts = ap length s.whole ∙ length-append s.front s.back in
+      omega arith
 
-upto_body : (b : Body) → IsUpTo 111 (SpellsBody version_1 b)
-upto_body (Call object handler args) = upto_call object handler args
-upto_body (Get spot) = upto_more 8 111 _ (omega arith) (upto_spot spot)
-upto_body (Put spot value) = upto_more 21 111 _ (omega arith) (upto_follows 8 13 _ _ (upto_spot spot) (upto_given value))
-upto_body (Make class args) = upto_more 107 111 _ (omega arith) (upto_follows 2 105 _ _ (upto_16 class) (upto_list args))
-upto_body (Reply value) = upto_more 13 111 _ (omega arith) (upto_value value)
-upto_body (Cast object handler args) = upto_call object handler args
+  upto_call : (object handler : ℕ) (args : List Value) → IsUpTo (4 + (2 + n)) (SpellsCall f object handler args)
+  upto_call object handler args = upto_follows 4 (2 + n) _ _ (upto_32 object) (upto_follows 2 n _ _ (upto_16 handler) (upto_list args))
 
-pub length-message : (bytes : List ℕ) → IsMessage version_1 bytes → length bytes ≤ 126
-length-message bytes m = by bytes m.1
+  upto_body : (b : Body) → IsUpTo (4 + (2 + n)) (SpellsBody f b)
+  upto_body (Call object handler args) = upto_call object handler args
+  upto_body (Get spot) = upto_more 8 (4 + (2 + n)) _ (omega arith) (upto_spot spot)
+  upto_body (Put spot value) = upto_more 21 (4 + (2 + n)) _ (omega arith) (upto_follows 8 13 _ _ (upto_spot spot) (upto_given value))
+  upto_body (Make class args) = upto_more (2 + n) (4 + (2 + n)) _ (omega arith) (upto_follows 2 n _ _ (upto_16 class) (upto_list args))
+  upto_body (Reply value) = upto_more 13 (4 + (2 + n)) _ (omega arith) (upto_value value)
+  upto_body (Cast object handler args) = upto_call object handler args
+
+  upto_message : (r : Request) (bytes : List ℕ) → Spells f r bytes → length bytes ≤ 21 + n
+  upto_message r bytes s =
+      let all : IsUpTo (1 + (1 + (1 + (4 + (4 + (4 + (4 + (2 + n)))))))) (Spells f r) =
+      upto_follows 1 _ _ _ (upto_byte 0x52) (upto_follows 1 _ _ _ (upto_byte f.version) (upto_follows 1 _ _ _ (upto_byte (kind_byte r.body))
+      (upto_follows 4 _ _ _ (upto_32 r.to) (upto_follows 4 _ _ _ (upto_32 r.from) (upto_follows 4 _ _ _ (upto_32 r.ticket) (upto_body r.body)))))) in
+      let long = all bytes s in
+      omega arith
+
+-- the longest message of each version
+pub length_1 : (r : Request) (bytes : List ℕ) → Spells version_1 r bytes → length bytes ≤ 126
+length_1 r bytes s = upto_message version_1 105 (omega arith) (omega arith) r bytes s
+
+pub length_2 : (r : Request) (bytes : List ℕ) → Spells version_2 r bytes → length bytes ≤ 53271
+length_2 r bytes s = upto_message version_2 53250 (omega arith) (omega arith) r bytes s
+
+length-message : (bytes : List ℕ) → IsMessage bytes → length bytes ≤ 53271
+length-message bytes m = by m.1.version m.1.spelled
   where
-    by : IsUpTo 126 (Spells version_1 m.0)
-    by = upto_follows 1 125 _ _ (upto_byte 0x52) (upto_follows 1 124 _ _ (upto_byte 1) (upto_follows 1 123 _ _ (upto_byte (kind_byte m.0.body)) (upto_follows 4 119 _ _ (upto_32 m.0.to) (upto_follows 4 115 _ _ (upto_32 m.0.from) (upto_follows 4 111 _ _ (upto_32 m.0.ticket) (upto_body m.0.body))))))
+    by : (v : Version) → Spells (format_of v) m.0 bytes → length bytes ≤ 53271
+    by One s = let long = length_1 m.0 bytes s in omega arith
+    by Two s = length_2 m.0 bytes s
 
 -- less than a message has fewer bytes than the longest
-pub length-partial : (bytes : List ℕ) → IsPartial (IsMessage version_1) bytes → length bytes < 126
+pub length-partial : (bytes : List ℕ) → IsPartial IsMessage bytes → length bytes < 53271
 length-partial bytes p =
     let long = length-message (bytes ++ p.missing) p.spelled in
     let parts = length-append bytes p.missing in

@@ -1,6 +1,6 @@
 -- Steps of the code that reads whole messages.
-use Rattle.std.proofs.Common.{◌≡◌, ◌≢◌, ℕ, suc, zero, ◌+◌, ◌-◌, ◌<◌, ◌≤◌, List, [], ◌∷◌, ◌++◌, length, take, drop, Bool, true, false, ◌==◌, refl, sym, ◌∙◌, ap, subst, arith, append_assoc, length-append}
-use Rattle.std.specs.Int.{Width, w8, w16, w32, byte_len}
+use Rattle.std.proofs.Common.{◌≡◌, ◌≢◌, ℕ, ◌+◌, ◌-◌, ◌<◌, ◌≤◌, List, [], ◌∷◌, ◌++◌, length, take, drop, true, false, ◌==◌, refl, sym, ◌∙◌, ap, subst, arith, append_assoc, length-append}
+use Rattle.std.specs.Int.{Width, w16, w32, byte_len}
 use Rattle.std.proofs.lemmas.List.{append-nil, drop_at, length-take, nil_from_length}
 use borrow.Author.Tests.{eqb-true}
 use Rattle.global_ptr.specs.declared.values.Spot.{Spot}
@@ -14,8 +14,7 @@ use Rattle.marshal.proofs.ValueLaws.{one_value, length-value, length-follows}
 use Rattle.rsr_message.specs.declared.kinds.Kind.{Kind}
 use Rattle.rsr_message.specs.declared.kinds.Kind.TheVariants as kind
 use Rattle.rsr_message.specs.declared.requests.Request.{Request}
-use Rattle.rsr_message.specs.declared.requests.Body.TheVariants.{Call, Cast}
-use Rattle.rsr_message.specs.Requests.{version_1, SpellsGiven, SpellsEach, SpellsCount, SpellsList, SpellsSpot, SpellsCall, SpellsBody, Spells}
+use Rattle.rsr_message.specs.Requests.{Format, SpellsGiven, SpellsEach, SpellsList, SpellsSpot, SpellsBody, Spells}
 use Rattle.rsr_message.specs.Shapes.{byte_of, fields_len, IsGiven, IsList, IsTail, HasShape, HasBodyShape, IsBody, AreValues, BeginsWithValue}
 use Rattle.rsr_message.proofs.EncodingSteps.{same_byte}
 use Rattle.rsr_message.proofs.ShapeLaws.{spread, headed_request}
@@ -125,22 +124,23 @@ same_each (v ∷ vs) (w ∷ ws) bytes p q =
 
 -- the list behind the number of its values
 
-count_long : (bytes : List ℕ) (list : IsList version_1 bytes) → length list.1.front ≡ 1
-count_long bytes list = length-number w8 (length list.0) list.1.front list.1.first.number
+module _ (f : Format) (bytes : List ℕ) (list : IsList f bytes) where
+  count_long : length list.1.front ≡ byte_len f.count
+  count_long = length-number f.count (length list.0) list.1.front list.1.first.number
 
-pub list_some : (bytes : List ℕ) → IsList version_1 bytes → 1 ≤ length bytes
-list_some bytes list = let count = count_long bytes list in let parts = ap length list.1.whole ∙ length-append list.1.front list.1.back in omega arith
+  pub list_some : byte_len f.count ≤ length bytes
+  list_some = let count = count_long in let parts = ap length list.1.whole ∙ length-append list.1.front list.1.back in omega arith
 
-values_behind : (bytes : List ℕ) (list : IsList version_1 bytes) → SpellsEach list.0 (drop 1 bytes)
-values_behind bytes list = subst (SpellsEach list.0) (sym (drop_at list.1.front list.1.back 1 (count_long bytes list)) ∙ ap (drop 1) (sym list.1.whole)) list.1.second
+  values_behind : SpellsEach list.0 (drop (byte_len f.count) bytes)
+  values_behind = subst (SpellsEach list.0) (sym (drop_at list.1.front list.1.back (byte_len f.count) count_long) ∙ ap (drop (byte_len f.count)) (sym list.1.whole)) list.1.second
 
-pub list_values : (bytes : List ℕ) → IsList version_1 bytes → AreValues (drop 1 bytes)
-list_values bytes list = (list.0, values_behind bytes list)
+  pub list_values : AreValues (drop (byte_len f.count) bytes)
+  list_values = (list.0, values_behind)
 
-pub list_of : (bytes : List ℕ) (values : List Value) → IsList version_1 bytes → SpellsEach values (drop 1 bytes) → SpellsList version_1 values bytes
-list_of bytes values list each =
-    let same : list.0 ≡ values = same_each list.0 values (drop 1 bytes) (values_behind bytes list) each in
-    subst (λ vs. SpellsList version_1 vs bytes) same list.1
+  pub list_of : (values : List Value) → SpellsEach values (drop (byte_len f.count) bytes) → SpellsList f values bytes
+  list_of values each =
+      let same : list.0 ≡ values = same_each list.0 values (drop (byte_len f.count) bytes) values_behind each in
+      subst (λ vs. SpellsList f vs bytes) same list.1
 
 -- the numbers of a body, and what is behind them
 
@@ -157,15 +157,15 @@ taken_long w n bytes rest taken = let long = length-number w n taken.spelling ta
 
 -- the head, the three numbers and the body
 
-pub head_long : (k : Kind) (message : List ℕ) → HasShape version_1 k message → 3 + fields_len k ≤ length message
-head_long k message s =
+pub head_long : (f : Format) (k : Kind) (message : List ℕ) → HasShape f k message → 3 + fields_len k ≤ length message
+head_long f k message s =
     let head : length s.front ≡ 3 = ap length s.first in
     let parts = ap length s.whole ∙ length-append s.front s.back in
-    let fields = fields_long (fields_len k) (IsTail version_1 k) s.back s.second in
+    let fields = fields_long (fields_len k) (IsTail f k) s.back s.second in
     omega arith
 
-behind_the_head : (k : Kind) (message : List ℕ) (s : HasShape version_1 k message) → s.back ≡ drop 3 message
-behind_the_head k message s = sym (drop_at s.front s.back 3 (ap length s.first)) ∙ ap (drop 3) (sym s.whole)
+behind_the_head : (f : Format) (k : Kind) (message : List ℕ) (s : HasShape f k message) → s.back ≡ drop 3 message
+behind_the_head f k message s = sym (drop_at s.front s.back 3 (ap length s.first)) ∙ ap (drop 3) (sym s.whole)
 
 -- how many bytes a kind's own numbers have
 pub own_fields : (k : Kind) → fields_len k ≡ 12 + (fields_len k - 12)
@@ -179,36 +179,36 @@ own_fields kind.Cast = refl
 three_numbers : (to from ticket : ℕ) (l : List ℕ) → (IsNumber w32 to ▸ IsNumber w32 from ▸ IsNumber w32 ticket) l → length l ≡ 12
 three_numbers to from ticket = length-follows _ _ 4 8 (length-number w32 to) (length-follows _ _ 4 4 (length-number w32 from) (length-number w32 ticket))
 
-pub body_behind : (k : Kind) (message bytes behind_to behind_from rest : List ℕ) (to from ticket : ℕ) → HasShape version_1 k message → bytes ≡ drop 3 message →
-    Takes (IsNumber w32 to) bytes behind_to → Takes (IsNumber w32 from) behind_to behind_from → Takes (IsNumber w32 ticket) behind_from rest → HasBodyShape k version_1 rest
-body_behind k message bytes behind_to behind_from rest to from ticket s is a b c =
+pub body_behind : (f : Format) (k : Kind) (message bytes behind_to behind_from rest : List ℕ) (to from ticket : ℕ) → HasShape f k message → bytes ≡ drop 3 message →
+    Takes (IsNumber w32 to) bytes behind_to → Takes (IsNumber w32 from) behind_to behind_from → Takes (IsNumber w32 ticket) behind_from rest → HasBodyShape k f rest
+body_behind f k message bytes behind_to behind_from rest to from ticket s is a b c =
     let own = fields_len k - 12 in
-    let fields : (AnyBytes (12 + own) ▸ IsTail version_1 k) bytes = subst (λ n. (AnyBytes n ▸ IsTail version_1 k) bytes) (own_fields k) (subst (AnyBytes (fields_len k) ▸ IsTail version_1 k) (behind_the_head k message s ∙ sym is) s.second) in
-    behind_fields 12 (IsNumber w32 to ▸ IsNumber w32 from ▸ IsNumber w32 ticket) (AnyBytes own ▸ IsTail version_1 k) bytes rest (three_numbers to from ticket)
-    (spread 12 own (IsTail version_1 k) bytes fields)
+    let fields : (AnyBytes (12 + own) ▸ IsTail f k) bytes = subst (λ n. (AnyBytes n ▸ IsTail f k) bytes) (own_fields k) (subst (AnyBytes (fields_len k) ▸ IsTail f k) (behind_the_head f k message s ∙ sym is) s.second) in
+    behind_fields 12 (IsNumber w32 to ▸ IsNumber w32 from ▸ IsNumber w32 ticket) (AnyBytes own ▸ IsTail f k) bytes rest (three_numbers to from ticket)
+    (spread 12 own (IsTail f k) bytes fields)
     (takes_follow (IsNumber w32 to) (IsNumber w32 from ▸ IsNumber w32 ticket) bytes behind_to rest a (takes_follow (IsNumber w32 from) (IsNumber w32 ticket) behind_to behind_from rest b c))
 
-pub request_read : (k : Kind) (r : Request) (message bytes behind_to behind_from rest : List ℕ) → HasShape version_1 k message → bytes ≡ drop 3 message →
-    Takes (IsNumber w32 r.to) bytes behind_to → Takes (IsNumber w32 r.from) behind_to behind_from → Takes (IsNumber w32 r.ticket) behind_from rest → IsBody version_1 k rest r.body → Spells version_1 r message
-request_read k r message bytes behind_to behind_from rest s is a b c body =
-    let P : List ℕ → Type 0 = SpellsBody version_1 r.body in
+pub request_read : (f : Format) (k : Kind) (r : Request) (message bytes behind_to behind_from rest : List ℕ) → HasShape f k message → bytes ≡ drop 3 message →
+    Takes (IsNumber w32 r.to) bytes behind_to → Takes (IsNumber w32 r.from) behind_to behind_from → Takes (IsNumber w32 r.ticket) behind_from rest → IsBody f k rest r.body → Spells f r message
+request_read f k r message bytes behind_to behind_from rest s is a b c body =
+    let P : List ℕ → Type 0 = SpellsBody f r.body in
     let numbers : (IsNumber w32 r.to ▸ IsNumber w32 r.from ▸ IsNumber w32 r.ticket ▸ P) bytes =
     follows_taken (IsNumber w32 r.to) (IsNumber w32 r.from ▸ IsNumber w32 r.ticket ▸ P) bytes behind_to a
     (follows_taken (IsNumber w32 r.from) (IsNumber w32 r.ticket ▸ P) behind_to behind_from b
     (follows_taken (IsNumber w32 r.ticket) P behind_from rest c body.spelled)) in
-    headed_request version_1 k r message s (subst (IsNumber w32 r.to ▸ IsNumber w32 r.from ▸ IsNumber w32 r.ticket ▸ P) (is ∙ sym (behind_the_head k message s)) numbers) (ap byte_of (sym body.kind) ∙ same_byte r.body)
+    headed_request f k r message s (subst (IsNumber w32 r.to ▸ IsNumber w32 r.from ▸ IsNumber w32 r.ticket ▸ P) (is ∙ sym (behind_the_head f k message s)) numbers) (ap byte_of (sym body.kind) ∙ same_byte r.body)
 
 -- the kinds of bodies
 
 call_head : (object handler : ℕ) (l : List ℕ) → (IsNumber w32 object ▸ IsNumber w16 handler) l → length l ≡ 6
 call_head object handler = length-follows _ _ 4 2 (length-number w32 object) (length-number w16 handler)
 
-pub call_list : (bytes between rest : List ℕ) (object handler : ℕ) → (AnyBytes 6 ▸ IsList version_1) bytes → Takes (IsNumber w32 object) bytes between → Takes (IsNumber w16 handler) between rest → IsList version_1 rest
-call_list bytes between rest object handler f a b =
-    behind_fields 6 (IsNumber w32 object ▸ IsNumber w16 handler) (IsList version_1) bytes rest (call_head object handler) f (takes_follow (IsNumber w32 object) (IsNumber w16 handler) bytes between rest a b)
+pub call_list : (f : Format) (bytes between rest : List ℕ) (object handler : ℕ) → (AnyBytes 6 ▸ IsList f) bytes → Takes (IsNumber w32 object) bytes between → Takes (IsNumber w16 handler) between rest → IsList f rest
+call_list f bytes between rest object handler fields a b =
+    behind_fields 6 (IsNumber w32 object ▸ IsNumber w16 handler) (IsList f) bytes rest (call_head object handler) fields (takes_follow (IsNumber w32 object) (IsNumber w16 handler) bytes between rest a b)
 
-pub make_list : (bytes rest : List ℕ) (class : ℕ) → (AnyBytes 2 ▸ IsList version_1) bytes → Takes (IsNumber w16 class) bytes rest → IsList version_1 rest
-make_list bytes rest class f a = behind_fields 2 (IsNumber w16 class) (IsList version_1) bytes rest (length-number w16 class) f a
+pub make_list : (f : Format) (bytes rest : List ℕ) (class : ℕ) → (AnyBytes 2 ▸ IsList f) bytes → Takes (IsNumber w16 class) bytes rest → IsList f rest
+make_list f bytes rest class fields a = behind_fields 2 (IsNumber w16 class) (IsList f) bytes rest (length-number w16 class) fields a
 
 spot_long : (s : Spot) (l : List ℕ) → SpellsSpot s l → length l ≡ 8
 spot_long s = length-follows _ _ 4 4 (length-number w32 s.object) (length-number w32 s.offset)

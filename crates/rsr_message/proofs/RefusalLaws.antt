@@ -1,24 +1,28 @@
 -- What is less than a message, and what is none.
-use Rattle.std.proofs.Common.{◌≡◌, ◌≢◌, ℕ, suc, zero, ◌+◌, ◌-◌, ◌%◌, ◌<◌, ◌≤◌, List, [], ◌∷◌, ◌++◌, length, replicate, take, drop, refl, sym, ◌∙◌, ap, subst, arith, append_assoc, length-append, Bool, true, false, nat_lt, nat_le, cond}
-use Rattle.std.specs.Int.{Width, w8, byte_len, to_be_bytes}
+use Rattle.std.proofs.Common.{◌≡◌, ◌≢◌, ℕ, suc, ◌+◌, ◌<◌, List, [], ◌∷◌, ◌++◌, length, replicate, refl, sym, ◌∙◌, ap, subst, arith, append_assoc, length-append}
+use Rattle.std.specs.Int.{byte_len, to_be_bytes}
 use Rattle.std.proofs.lemmas.List.{append-nil}
+use Rattle.std.proofs.lemmas.Bool.{lt-ltb}
 use Rattle.std.proofs.lemmas.Nat.{pow_pos}
 use mir.Val.{bits}
 use Rattle.global_ptr.specs.declared.values.Value.{Value}
 use Rattle.global_ptr.specs.declared.values.Value.TheVariants.{Void, Int, Null, Ptr}
-use Rattle.marshal.specs.Spellings.{IsByte, IsNumber, IsBytes, AnyBytes, Follows, ◌▸◌, BeginsWith, IsPartial, IsWrongAt, IsPrefixFree}
+use Rattle.marshal.specs.Spellings.{IsNumber, IsBytes, AnyBytes, ◌▸◌, BeginsWith, IsPartial, IsWrongAt, IsPrefixFree}
 use Rattle.marshal.specs.Values.{SpellsValue, IsValue}
-use Rattle.marshal.proofs.NumberLaws.{IsBytes-zeros, ReadsBack, reads_back_8, filled, length-number}
-use Rattle.marshal.proofs.ValueLaws.{tag_of, first_byte}
+use Rattle.marshal.proofs.Laws.{wrong_is_not_whole}
+use Rattle.marshal.proofs.NumberLaws.{IsBytes-zeros, ReadsBack, filled, length-number}
+use Rattle.marshal.proofs.ValueLaws.{first_byte}
 use Rattle.rsr_message.specs.declared.faults.MessageFault.{MessageFault}
-use Rattle.rsr_message.specs.declared.faults.MessageFault.TheVariants.{Short, BadMagic, BadVersion, BadKind, BadCount, BadTag, Memory}
+use Rattle.rsr_message.specs.declared.faults.MessageFault.TheVariants.{Short, BadCount, Memory}
 use Rattle.rsr_message.specs.declared.kinds.Kind.{Kind}
 use Rattle.rsr_message.specs.declared.kinds.Kind.TheVariants as kind
-use Rattle.rsr_message.specs.Requests.{Format, version_1, SpellsGiven, SpellsEach, SpellsCount, SpellsList, IsMessage}
-use Rattle.rsr_message.specs.Shapes.{byte_of, fields_len, IsHead, IsNothing, IsGiven, IsEach, IsList, IsTail}
-use Rattle.rsr_message.specs.Refusals.{is_count, fault_at, IsWrong, IsRefused}
+use Rattle.rsr_message.specs.declared.versions.Version.{Version}
+use Rattle.rsr_message.specs.declared.versions.Version.TheVariants.{Two}
+use Rattle.rsr_message.specs.Requests.{Format, format_of, SpellsGiven, SpellsCount, IsMessage}
+use Rattle.rsr_message.specs.Shapes.{byte_of, fields_len, IsGiven, IsEach, IsCount, IsList, IsTail}
+use Rattle.rsr_message.specs.Refusals.{list_fault, IsRefused}
 use Rattle.rsr_message.proofs.Leads.{Leads, leads_partial, leads_wrong, leads_first, partial_first, wrong_first}
-use Rattle.rsr_message.proofs.MessageLaws.{IsGiven-free, each_cons, cons_each, some_each, AnyBytes-free, message_head, headed}
+use Rattle.rsr_message.proofs.MessageLaws.{IsGiven-free, IsCount-free, each_cons, cons_each, some_each, AnyBytes-free, message_head, headed}
 
 -- a refusal of what is behind a front is one of all
 pub leads_refused : (P Q : List ℕ → Type 0) (bytes rest : List ℕ) (n : ℕ) → Leads P Q bytes rest n → (name inner : ℕ → MessageFault) → ((k : ℕ) → inner k ≡ name (n + k)) → (fault : MessageFault) → IsRefused Q inner rest fault → IsRefused P name bytes fault
@@ -132,26 +136,60 @@ empty_list f = (
   },
 )
 
--- the number of values is missing
-pub no_count_partial : (f : Format) → 0 < byte_len f.count → IsPartial (IsList f) []
-no_count_partial f wide = record { missing = to_be_bytes f.count 0; some = (let long = length-number f.count 0 (to_be_bytes f.count 0) (record { fits = pow_pos (bits f.count); big_endian = refl }) in omega arith); spelled = empty_list f }
+module _ (f : Format) (back : ReadsBack f.count) where
+  -- the number of a list's values is missing
+  pub no_count_partial : 0 < byte_len f.count → IsPartial (IsCount f) []
+  no_count_partial wide =
+      let number : IsNumber f.count 0 (to_be_bytes f.count 0) = record { fits = pow_pos (bits f.count); big_endian = refl } in
+      record { missing = to_be_bytes f.count 0; some = (let long = length-number f.count 0 (to_be_bytes f.count 0) number in omega arith); spelled = (0, record { few = omega arith; number = number }) }
 
--- the number of values is too great
-pub count_wrong : (count : ℕ) (rest : List ℕ) → 8 < count → IsWrongAt (IsList version_1) (count ∷ rest) 0
-count_wrong count rest great = record {
-  before = [];
-  byte = count;
-  after = rest;
-  whole = refl;
-  place = refl;
-  partial = no_count_partial version_1 (omega arith);
-  none = λ more list.
-      let number = list.1.first.number in
-      let few = list.1.first.few in
-      let is : count ∷ more ≡ (length list.0 % 256) ∷ list.1.back = list.1.whole ∙ ap (λ l. l ++ list.1.back) number.big_endian in
-      let same : count ≡ length list.0 % 256 = cc in
-      omega arith;
-}
+  -- less than the number of its values is less than a list
+  count_partial : (bytes : List ℕ) → IsPartial (IsCount f) bytes → IsPartial (IsList f) bytes
+  count_partial bytes p =
+      let each = some_each p.spelled.0 in
+      record {
+        missing = p.missing ++ each.0;
+        some = (let some = p.some in let long = length-append p.missing each.0 in omega arith);
+        spelled = (
+          each.1.values,
+          record {
+            front = bytes ++ p.missing;
+            back = each.0;
+            first = subst (λ n. SpellsCount f n (bytes ++ p.missing)) (sym each.1.long) p.spelled.1;
+            second = each.1.spelled;
+            whole = sym (append_assoc bytes p.missing each.0);
+          },
+        );
+      }
+
+  count_wrong : (bytes : List ℕ) (at : ℕ) → IsWrongAt (IsCount f) bytes at → IsWrongAt (IsList f) bytes at
+  count_wrong bytes at w = record {
+    before = w.before;
+    byte = w.byte;
+    after = w.after;
+    whole = w.whole;
+    place = w.place;
+    partial = count_partial w.before w.partial;
+    none = λ more list. wrong_is_not_whole (IsCount f) (IsCount-free f back) (w.before ++ w.byte ∷ more) at (length list.1.front)
+        (record { before = w.before; byte = w.byte; after = more; whole = refl; place = w.place; partial = w.partial; none = w.none })
+        (record { spelling = list.1.front; rest = list.1.back; spelled = (length list.0, list.1.first); long = refl; whole = list.1.whole });
+  }
+
+  -- a wrong byte of the number is one of its bytes
+  count_place : (bytes : List ℕ) (at : ℕ) → IsWrongAt (IsCount f) bytes at → at < byte_len f.count
+  count_place bytes at w =
+      let p = w.partial in
+      let long = length-number f.count p.spelled.0 (w.before ++ p.missing) p.spelled.1.number in
+      let parts = length-append w.before p.missing in
+      let some = p.some in
+      let place = w.place in
+      omega arith
+
+  -- the list of a number that is refused
+  pub count_refused : (bytes : List ℕ) (at : ℕ) (fault : MessageFault) → IsRefused (IsCount f) (λ k. BadCount (at + k)) bytes fault → IsRefused (IsList f) (list_fault f at) bytes fault
+  count_refused bytes at Short r = count_partial bytes r
+  count_refused bytes at Memory r = r
+  count_refused bytes at fault r = record { at = r.at; wrong = count_wrong bytes r.at r.wrong; named = r.named ∙ rw (lt-ltb r.at (byte_len f.count) (count_place bytes r.at r.wrong)) refl }
 
 -- what may stand behind the numbers of a kind
 some_tail : (f : Format) (k : Kind) → (bytes : List ℕ) × IsTail f k bytes
@@ -174,8 +212,8 @@ fields_partial f k bytes all few =
     partial_first (AnyBytes (fields_len k)) (IsTail f k) bytes tail.0 tail.1 (record { missing = more.0; some = more.1; spelled = more.2 })
 
 -- a reply of null, to be sure of a message
-sample : (f : Format) → IsMessage f (0x52 ∷ f.version ∷ 5 ∷ (replicate 12 0 ++ 2 ∷ []))
-sample f = headed f kind.Reply (replicate 12 0 ++ 2 ∷ []) (record {
+sample : (v : Version) → IsMessage (0x52 ∷ (format_of v).version ∷ 5 ∷ (replicate 12 0 ++ 2 ∷ []))
+sample v = headed v kind.Reply (replicate 12 0 ++ 2 ∷ []) (record {
   front = replicate 12 0;
   back = 2 ∷ [];
   first = record { long = refl; all = IsBytes-zeros 12 };
@@ -184,45 +222,45 @@ sample f = headed f kind.Reply (replicate 12 0 ++ 2 ∷ []) (record {
 })
 
 -- less than the three bytes with which a message begins
-pub nothing_partial : (f : Format) → IsPartial (IsMessage f) []
-nothing_partial f = record { missing = 0x52 ∷ f.version ∷ 5 ∷ (replicate 12 0 ++ 2 ∷ []); some = omega arith; spelled = sample f }
+pub nothing_partial : IsPartial IsMessage []
+nothing_partial = record { missing = 0x52 ∷ (format_of Two).version ∷ 5 ∷ (replicate 12 0 ++ 2 ∷ []); some = omega arith; spelled = sample Two }
 
-pub magic_partial : (f : Format) → IsPartial (IsMessage f) (0x52 ∷ [])
-magic_partial f = record { missing = f.version ∷ 5 ∷ (replicate 12 0 ++ 2 ∷ []); some = omega arith; spelled = sample f }
+pub magic_partial : IsPartial IsMessage (0x52 ∷ [])
+magic_partial = record { missing = (format_of Two).version ∷ 5 ∷ (replicate 12 0 ++ 2 ∷ []); some = omega arith; spelled = sample Two }
 
-pub version_partial : (f : Format) → IsPartial (IsMessage f) (0x52 ∷ f.version ∷ [])
-version_partial f = record { missing = 5 ∷ (replicate 12 0 ++ 2 ∷ []); some = omega arith; spelled = sample f }
+pub version_partial : (v : Version) → IsPartial IsMessage (0x52 ∷ (format_of v).version ∷ [])
+version_partial v = record { missing = 5 ∷ (replicate 12 0 ++ 2 ∷ []); some = omega arith; spelled = sample v }
 
 -- each of the three bytes where it is wrong
-pub magic_wrong : (f : Format) (byte : ℕ) (rest : List ℕ) → byte ≢ 0x52 → IsWrongAt (IsMessage f) (byte ∷ rest) 0
-magic_wrong f byte rest other = record {
+pub magic_wrong : (byte : ℕ) (rest : List ℕ) → byte ≢ 0x52 → IsWrongAt IsMessage (byte ∷ rest) 0
+magic_wrong byte rest other = record {
   before = [];
   byte = byte;
   after = rest;
   whole = refl;
   place = refl;
-  partial = nothing_partial f;
-  none = λ more m. let head = message_head f (byte ∷ more) m in other (cc head.2);
+  partial = nothing_partial;
+  none = λ more m. let head = message_head (byte ∷ more) m in other (cc head.whole);
 }
 
-pub version_wrong : (f : Format) (byte : ℕ) (rest : List ℕ) → byte ≢ f.version → IsWrongAt (IsMessage f) (0x52 ∷ byte ∷ rest) 1
-version_wrong f byte rest other = record {
+pub version_wrong : (byte : ℕ) (rest : List ℕ) → ((v : Version) → byte ≢ (format_of v).version) → IsWrongAt IsMessage (0x52 ∷ byte ∷ rest) 1
+version_wrong byte rest other = record {
   before = 0x52 ∷ [];
   byte = byte;
   after = rest;
   whole = refl;
   place = refl;
-  partial = magic_partial f;
-  none = λ more m. let head = message_head f (0x52 ∷ byte ∷ more) m in other (cc head.2);
+  partial = magic_partial;
+  none = λ more m. let head = message_head (0x52 ∷ byte ∷ more) m in other head.version (cc head.whole);
 }
 
-pub kind_wrong : (f : Format) (byte : ℕ) (rest : List ℕ) → ((k : Kind) → byte ≢ byte_of k) → IsWrongAt (IsMessage f) (0x52 ∷ f.version ∷ byte ∷ rest) 2
-kind_wrong f byte rest other = record {
-  before = 0x52 ∷ f.version ∷ [];
+pub kind_wrong : (v : Version) (byte : ℕ) (rest : List ℕ) → ((k : Kind) → byte ≢ byte_of k) → IsWrongAt IsMessage (0x52 ∷ (format_of v).version ∷ byte ∷ rest) 2
+kind_wrong v byte rest other = record {
+  before = 0x52 ∷ (format_of v).version ∷ [];
   byte = byte;
   after = rest;
   whole = refl;
   place = refl;
-  partial = version_partial f;
-  none = λ more m. let head = message_head f (0x52 ∷ f.version ∷ byte ∷ more) m in other head.0 (cc head.2);
+  partial = version_partial v;
+  none = λ more m. let head = message_head (0x52 ∷ (format_of v).version ∷ byte ∷ more) m in other head.kind (cc head.whole);
 }

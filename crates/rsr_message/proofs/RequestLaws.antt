@@ -1,18 +1,19 @@
 -- One request a spelling, and one spelling a request.
-use Rattle.std.proofs.Common.{◌≡◌, ◌≢◌, ℕ, suc, zero, ◌+◌, ◌<◌, ◌≤◌, List, [], ◌∷◌, ◌++◌, length, refl, sym, ◌∙◌, ap, subst, arith, append_assoc, length-append}
-use Rattle.std.specs.Int.{Width, w16, w32, byte_len, to_be_bytes}
-use Rattle.std.proofs.lemmas.List.{append_cancel_left}
+use Rattle.std.proofs.Common.{◌≡◌, ℕ, List, [], ◌∷◌, ◌++◌, length, refl, sym, ◌∙◌, ap, subst, arith, append_assoc}
+use Rattle.std.specs.Int.{Width, w16, w32}
 use Rattle.global_ptr.specs.declared.values.Spot.{Spot}
 use Rattle.global_ptr.specs.declared.values.Value.{Value}
-use Rattle.marshal.specs.Spellings.{IsByte, IsNumber, Follows, ◌▸◌}
-use Rattle.marshal.specs.Values.{SpellsValue}
+use Rattle.marshal.specs.Spellings.{IsNumber, ◌▸◌}
 use Rattle.marshal.proofs.NumberLaws.{ReadsBack, reads_back_16, reads_back_32, one_number}
 use Rattle.marshal.proofs.ValueLaws.{one_value}
 use Rattle.rsr_message.specs.declared.requests.Request.{Request}
 use Rattle.rsr_message.specs.declared.requests.Body.{Body}
 use Rattle.rsr_message.specs.declared.requests.Body.TheVariants.{Call, Get, Put, Make, Reply, Cast}
-use Rattle.rsr_message.specs.Requests.{Format, SpellsGiven, SpellsEach, SpellsCount, SpellsList, SpellsSpot, SpellsCall, SpellsBody, Spells, IsMessage, kind_byte}
-use Rattle.rsr_message.proofs.MessageLaws.{IsMessage-free}
+use Rattle.rsr_message.specs.declared.versions.Version.{Version}
+use Rattle.rsr_message.specs.Shapes.{kind_of}
+use Rattle.rsr_message.specs.Requests.{Format, format_of, SpellsGiven, SpellsEach, SpellsCount, SpellsList, SpellsSpot, SpellsCall, SpellsBody, Spells, SpellsEither, kind_byte}
+use Rattle.rsr_message.proofs.MessageLaws.{IsMessage-free, back_of, same_shape}
+use Rattle.rsr_message.proofs.ShapeLaws.{spelled_shape}
 
 -- the first of two spellings, and what is behind it
 first_of : (P Q : List ℕ → Type 0) (s x : List ℕ) (p : (P ▸ Q) s) → s ++ x ≡ p.front ++ (p.back ++ x)
@@ -73,24 +74,41 @@ one_body f back (Reply v) (Reply w) s t x y kind p q e = let one = one_value v w
 one_body f back (Cast o h a) (Cast o' h' a') s t x y kind p q e = let one = one_call f back o o' h h' a a' s t x y p q e in cc (one.0, one.1, one.2)
 one_body f back b c s t x y kind p q e = absurd (omega arith)
 
--- bytes begin with one request at most
-pub one_request : (f : Format) → ReadsBack f.count → (r q : Request) (s t x y : List ℕ) → Spells f r s → Spells f q t → s ++ x ≡ t ++ y → (r ≡ q) × (s ≡ t)
-one_request f back r q s t x y a b e =
-    let kinds = a.second.second in
-    let same : s ≡ t = IsMessage-free f back s t x y (r, a) (q, b) e in
-    let heads = heads_of a.first a.second.first kinds.first a.whole a.second.whole kinds.whole in
-    let others = heads_of b.first b.second.first b.second.second.first b.whole b.second.whole b.second.second.whole in
-    let all : 0x52 ∷ f.version ∷ kind_byte r.body ∷ kinds.back ≡ 0x52 ∷ f.version ∷ kind_byte q.body ∷ b.second.second.back = sym heads ∙ same ∙ others in
-    let kind : kind_byte r.body ≡ kind_byte q.body = cc in
-    let behind : kinds.back ≡ b.second.second.back = cc in
-    let p = kinds.second in
-    let o = b.second.second.second in
-    let to = next_number w32 reads_back_32 r.to q.to (IsNumber w32 r.from ▸ IsNumber w32 r.ticket ▸ SpellsBody f r.body) (IsNumber w32 q.from ▸ IsNumber w32 q.ticket ▸ SpellsBody f q.body) kinds.back b.second.second.back [] [] p o (ap (λ l. l ++ []) behind) in
-    let from = next_number w32 reads_back_32 r.from q.from (IsNumber w32 r.ticket ▸ SpellsBody f r.body) (IsNumber w32 q.ticket ▸ SpellsBody f q.body) p.back o.back [] [] p.second o.second to.1 in
-    let ticket = next_number w32 reads_back_32 r.ticket q.ticket (SpellsBody f r.body) (SpellsBody f q.body) p.second.back o.second.back [] [] p.second.second o.second.second from.1 in
-    let body : r.body ≡ q.body = one_body f back r.body q.body p.second.second.back o.second.second.back [] [] kind p.second.second.second o.second.second.second ticket.1 in
-    let requests : ◌≡◌ {A = Request} (record { to = r.to; from = r.from; ticket = r.ticket; body = r.body }) (record { to = q.to; from = q.from; ticket = q.ticket; body = q.body }) = cc (to.0, from.0, ticket.0, body) in
-    (requests, same)
-  where
-    heads_of : {a b c l m n o : List ℕ} {x y z : ℕ} → a ≡ x ∷ [] → b ≡ y ∷ [] → c ≡ z ∷ [] → l ≡ a ++ m → m ≡ b ++ n → n ≡ c ++ o → l ≡ x ∷ y ∷ z ∷ o
-    heads_of a b c l m n = cc
+module _ (v : Version) where
+  -- bytes begin with one request of a version at most
+  one_spelled : (r q : Request) (s t x y : List ℕ) → Spells (format_of v) r s → Spells (format_of v) q t → s ++ x ≡ t ++ y → (r ≡ q) × (s ≡ t)
+  one_spelled r q s t x y a b e =
+      let f = format_of v in
+      let kinds = a.second.second in
+      let same : s ≡ t = IsMessage-free s t x y (r, record { version = v; spelled = a }) (q, record { version = v; spelled = b }) e in
+      let heads = heads_of a.first a.second.first kinds.first a.whole a.second.whole kinds.whole in
+      let others = heads_of b.first b.second.first b.second.second.first b.whole b.second.whole b.second.second.whole in
+      let all : 0x52 ∷ f.version ∷ kind_byte r.body ∷ kinds.back ≡ 0x52 ∷ f.version ∷ kind_byte q.body ∷ b.second.second.back = sym heads ∙ same ∙ others in
+      let kind : kind_byte r.body ≡ kind_byte q.body = cc in
+      let behind : kinds.back ≡ b.second.second.back = cc in
+      let p = kinds.second in
+      let o = b.second.second.second in
+      let to = next_number w32 reads_back_32 r.to q.to (IsNumber w32 r.from ▸ IsNumber w32 r.ticket ▸ SpellsBody f r.body) (IsNumber w32 q.from ▸ IsNumber w32 q.ticket ▸ SpellsBody f q.body) kinds.back b.second.second.back [] [] p o (ap (λ l. l ++ []) behind) in
+      let from = next_number w32 reads_back_32 r.from q.from (IsNumber w32 r.ticket ▸ SpellsBody f r.body) (IsNumber w32 q.ticket ▸ SpellsBody f q.body) p.back o.back [] [] p.second o.second to.1 in
+      let ticket = next_number w32 reads_back_32 r.ticket q.ticket (SpellsBody f r.body) (SpellsBody f q.body) p.second.back o.second.back [] [] p.second.second o.second.second from.1 in
+      let body : r.body ≡ q.body = one_body f (back_of v) r.body q.body p.second.second.back o.second.second.back [] [] kind p.second.second.second o.second.second.second ticket.1 in
+      let requests : ◌≡◌ {A = Request} (record { to = r.to; from = r.from; ticket = r.ticket; body = r.body }) (record { to = q.to; from = q.from; ticket = q.ticket; body = q.body }) = cc (to.0, from.0, ticket.0, body) in
+      (requests, same)
+    where
+      heads_of : {a b c l m n o : List ℕ} {x y z : ℕ} → a ≡ x ∷ [] → b ≡ y ∷ [] → c ≡ z ∷ [] → l ≡ a ++ m → m ≡ b ++ n → n ≡ c ++ o → l ≡ x ∷ y ∷ z ∷ o
+      heads_of a b c l m n = cc
+
+-- the same bytes are of one version
+pub told_version : (v w : Version) (r q : Request) (bytes : List ℕ) → Spells (format_of v) r bytes → Spells (format_of w) q bytes → v ≡ w
+told_version v w r q bytes a b =
+    let p = spelled_shape (format_of v) r bytes a in
+    let o = spelled_shape (format_of w) q bytes b in
+    (same_shape v w (kind_of r.body) (kind_of q.body) p.back o.back (sym (p.whole ∙ ap (λ l. l ++ p.back) p.first) ∙ (o.whole ∙ ap (λ l. l ++ o.back) o.first))).0
+
+-- bytes begin with one request at most, in one version
+pub one_request : (r q : Request) (s t x y : List ℕ) → (a : SpellsEither r s) (b : SpellsEither q t) → s ++ x ≡ t ++ y → (r ≡ q) × (s ≡ t) × (a.version ≡ b.version)
+one_request r q s t x y a b e =
+    let same : s ≡ t = IsMessage-free s t x y (r, a) (q, b) e in
+    let versions : a.version ≡ b.version = told_version a.version b.version r q t (subst (Spells (format_of a.version) r) same a.spelled) b.spelled in
+    let one = one_spelled b.version r q s t x y (subst (λ v. Spells (format_of v) r s) versions a.spelled) b.spelled e in
+    (one.0, same, versions)

@@ -1,21 +1,21 @@
 -- The messages of a kind are what has its shape.
-use Rattle.std.proofs.Common.{◌≡◌, ◌≢◌, ℕ, suc, zero, ◌+◌, ◌<◌, ◌≤◌, List, [], ◌∷◌, ◌++◌, length, replicate, refl, sym, ◌∙◌, ap, subst, arith, append_assoc, length-append}
-use Rattle.std.specs.Int.{w8, w16, w32, byte_len, to_be_bytes, from_be_bytes}
+use Rattle.std.proofs.Common.{◌≡◌, ℕ, ◌+◌, List, [], ◌∷◌, ◌++◌, length, refl, sym, ◌∙◌, ap, subst, arith, append_assoc, length-append}
+use Rattle.std.specs.Int.{w16, w32, from_be_bytes}
 use Rattle.std.proofs.lemmas.List.{append-nil}
 use Rattle.global_ptr.specs.declared.values.Spot.{Spot}
 use Rattle.global_ptr.specs.declared.values.Value.{Value}
-use Rattle.global_ptr.specs.declared.values.Value.TheVariants.{Void, Null}
-use Rattle.marshal.specs.Spellings.{IsByte, IsNumber, IsBytes, AnyBytes, Follows, ◌▸◌, IsPartial}
+use Rattle.marshal.specs.Spellings.{IsNumber, IsBytes, AnyBytes, ◌▸◌}
 use Rattle.marshal.specs.Values.{SpellsValue, IsValue}
-use Rattle.marshal.proofs.NumberLaws.{IsBytes-append, IsBytes-zeros, any_number, number_of_2, number_of_4, filled}
+use Rattle.marshal.proofs.NumberLaws.{IsBytes-append, any_number, number_of_2, number_of_4}
 use Rattle.marshal.proofs.ValueLaws.{cut_any}
 use Rattle.rsr_message.specs.declared.kinds.Kind.{Kind}
 use Rattle.rsr_message.specs.declared.kinds.Kind.TheVariants as kind
 use Rattle.rsr_message.specs.declared.requests.Request.{Request}
 use Rattle.rsr_message.specs.declared.requests.Body.{Body}
 use Rattle.rsr_message.specs.declared.requests.Body.TheVariants as body
-use Rattle.rsr_message.specs.Requests.{Format, SpellsGiven, SpellsEach, SpellsCount, SpellsList, SpellsSpot, SpellsCall, SpellsBody, Spells, IsMessage, kind_byte}
-use Rattle.rsr_message.specs.Shapes.{kind_of, byte_of, fields_len, IsHead, IsNothing, IsGiven, IsList, IsTail, HasShape}
+use Rattle.rsr_message.specs.declared.versions.Version.{Version}
+use Rattle.rsr_message.specs.Requests.{Format, format_of, SpellsGiven, SpellsList, SpellsSpot, SpellsCall, SpellsBody, Spells, IsMessage, kind_byte}
+use Rattle.rsr_message.specs.Shapes.{kind_of, byte_of, fields_len, IsNothing, IsGiven, IsList, IsTail, HasShape}
 use Rattle.rsr_message.proofs.EncodingSteps.{same_byte}
 
 module _ (P Q : List ℕ → Type 0) where
@@ -196,5 +196,5 @@ shaped_request f k bytes s =
     let byte : byte_of k ≡ kind_byte b.0 = ap byte_of (sym b.1) ∙ same_byte b.0 in
     (r, b.1, headed_request f k r bytes s numbers byte)
 
-pub shaped_message : (f : Format) (k : Kind) (bytes : List ℕ) → HasShape f k bytes → IsMessage f bytes
-shaped_message f k bytes s = let found = shaped_request f k bytes s in (found.0, found.2)
+pub shaped_message : (v : Version) (k : Kind) (bytes : List ℕ) → HasShape (format_of v) k bytes → IsMessage bytes
+shaped_message v k bytes s = let found = shaped_request (format_of v) k bytes s in (found.0, record { version = v; spelled = found.2 })

@@ -10,6 +10,8 @@ use Rattle.marshal.specs.Values.{SpellsValue}
 use Rattle.rsr_message.specs.declared.requests.Request.{Request}
 use Rattle.rsr_message.specs.declared.requests.Body.{Body}
 use Rattle.rsr_message.specs.declared.requests.Body.TheVariants.{Call, Get, Put, Make, Reply, Cast}
+use Rattle.rsr_message.specs.declared.versions.Version.{Version}
+use Rattle.rsr_message.specs.declared.versions.Version.TheVariants.{One, Two}
 
 -- a version of the format: the second byte of its messages, how wide the number of a list's values is, and how many values
 -- a list has at most
@@ -20,6 +22,13 @@ pub record Format : Type 0 where
 
 abbrev pub version_1 : Format
 version_1 = record { version = 1; count = w8; most = 8 }
+
+abbrev pub version_2 : Format
+version_2 = record { version = 2; count = w16; most = 4096 }
+
+abbrev pub format_of : Version → Format
+format_of One = version_1
+format_of Two = version_2
 
 -- a value that is handed over: any but void
 pub record SpellsGiven (value : Value) (bytes : List ℕ) : Type 0 where
@@ -64,13 +73,18 @@ SpellsBody f (Make class args) = IsNumber w16 class ▸ SpellsList f args
 SpellsBody f (Reply value) = SpellsValue value
 SpellsBody f (Cast object handler args) = SpellsCall f object handler args
 
--- a request and its bytes
+-- a request and its bytes in a version
 abbrev pub Spells : Format → Request → List ℕ → Type 0
 Spells f r = IsByte 0x52 ▸ IsByte f.version ▸ IsByte (kind_byte r.body) ▸ IsNumber w32 r.to ▸ IsNumber w32 r.from ▸ IsNumber w32 r.ticket ▸ SpellsBody f r.body
 
--- the bytes of some request
-abbrev pub IsMessage : Format → List ℕ → Type 0
-IsMessage f bytes = (r : Request) × Spells f r bytes
+-- a request and its bytes in either version
+pub record SpellsEither (r : Request) (bytes : List ℕ) : Type 0 where
+  pub version : Version
+  pub spelled : Spells (format_of version) r bytes
+
+-- the bytes of some request, in either version
+abbrev pub IsMessage : List ℕ → Type 0
+IsMessage bytes = (r : Request) × SpellsEither r bytes
 
 -- a list that the format has bytes for
 pub record IsAllowedList (f : Format) (values : List Value) : Type 0 where
@@ -85,3 +99,39 @@ IsAllowed f (Put spot value) = value ≢ Void
 IsAllowed f (Make class args) = IsAllowedList f args
 IsAllowed f (Reply value) = Unit {0}
 IsAllowed f (Cast object handler args) = IsAllowedList f args
+
+pub record FitsAddress (a : Addr) : Type 0 where
+  pub processor : a.processor < 2 ^ 32
+  pub object : a.object < 2 ^ 32
+  pub offset : a.offset < 2 ^ 32
+
+abbrev pub FitsValue : Value → Type 0
+FitsValue Void = Unit {0}
+FitsValue (Int n) = FitsSigned w64 n
+FitsValue Null = Unit {0}
+FitsValue (Ptr a) = FitsAddress a
+
+pub record FitsSpot (spot : Spot) : Type 0 where
+  pub object : spot.object < 2 ^ 32
+  pub offset : spot.offset < 2 ^ 32
+
+pub record FitsCall (o h : ℕ) (vs : List Value) : Type 0 where
+  pub object : o < 2 ^ 32
+  pub handler : h < 2 ^ 16
+  pub args : All FitsValue vs
+
+abbrev pub FitsBody : Body → Type 0
+FitsBody (Call object handler args) = FitsCall object handler args
+FitsBody (Get spot) = FitsSpot spot
+FitsBody (Put spot value) = FitsSpot spot × FitsValue value
+FitsBody (Make class args) = (class < 2 ^ 16) × All FitsValue args
+FitsBody (Reply value) = FitsValue value
+FitsBody (Cast object handler args) = FitsCall object handler args
+
+-- a request whose numbers fit their fields, and whose values the format has bytes for
+pub record IsProper (f : Format) (r : Request) : Type 0 where
+  pub to : r.to < 2 ^ 32
+  pub from : r.from < 2 ^ 32
+  pub ticket : r.ticket < 2 ^ 32
+  pub body : FitsBody r.body
+  pub allowed : IsAllowed f r.body

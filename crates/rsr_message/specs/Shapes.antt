@@ -3,7 +3,7 @@ use Rattle.std.specs.Prelude.{◌≡◌, ℕ, ◌-◌, List, [], ◌∷◌, leng
 use Rattle.global_ptr.specs.declared.values.Value.{Value}
 use Rattle.marshal.specs.Spellings.{AnyBytes, ◌▸◌, BeginsWith}
 use Rattle.marshal.specs.Values.{IsValue, SpellsValue}
-use Rattle.rsr_message.specs.Requests.{Format, SpellsGiven, SpellsEach, SpellsList, SpellsBody}
+use Rattle.rsr_message.specs.Requests.{Format, SpellsGiven, SpellsEach, SpellsCount, SpellsList, SpellsBody}
 use Rattle.rsr_message.specs.declared.kinds.Kind.{Kind}
 use Rattle.rsr_message.specs.declared.kinds.Kind.TheVariants as kind
 use Rattle.rsr_message.specs.declared.requests.Body.{Body}
@@ -51,6 +51,10 @@ pub record IsEach (n : ℕ) (bytes : List ℕ) : Type 0 where
   pub values : List Value
   pub long : length values ≡ n
   pub spelled : SpellsEach values bytes
+
+-- the number of some list's values
+abbrev pub IsCount : Format → List ℕ → Type 0
+IsCount f bytes = (n : ℕ) × SpellsCount f n bytes
 
 abbrev pub IsList : Format → List ℕ → Type 0
 IsList f bytes = (values : List Value) × SpellsList f values bytes

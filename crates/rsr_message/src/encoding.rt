@@ -1,19 +1,20 @@
 ghost use Rattle.std.specs.Prelude.{◌≡◌, ◌≢◌, ◌≤◌, length, All, OnOk, OnErr};
 ghost use Rattle.global_ptr.specs.declared.values.Value.TheVariants.{Void};
 ghost use Rattle.marshal.specs.Spellings.{Puts, Extends};
-ghost use Rattle.rsr_message.specs.Requests.{version_1, Spells, SpellsBody, SpellsCall, SpellsList, SpellsSpot, IsAllowed, IsAllowedList};
+ghost use Rattle.rsr_message.specs.Requests.{version_2, Spells, SpellsBody, SpellsCall, SpellsList, SpellsSpot, IsAllowed, IsAllowedList};
 
-use crate::kinds::{MAGIC, VERSION};
+use crate::kinds::MAGIC;
 use crate::requests::{Body, Request};
+use crate::versions::Version;
 use ccpp_edge::{Bytes, List};
 use global_ptr::{Spot, Value};
 use marshal::{put_u16, put_u32, put_value};
 use std::alloc::AllocError;
 
-/// Puts the bytes of a request at the end. Want of memory leaves `out` as it was.
+/// Puts the bytes of a request in version 2 at the end. Want of memory leaves `out` as it was.
 pub fn encode(request: &Request, out: &mut Bytes) -> Result<(), AllocError>
-    requires { IsAllowed version_1 request.now.body }
-    ensures ok { OnOk result (Puts (Spells version_1 request.now) out.old out.new) }
+    requires { IsAllowed version_2 request.now.body }
+    ensures ok { OnOk result (Puts (Spells version_2 request.now) out.old out.new) }
     ensures err { OnErr result (out.new ≡ out.old) }
 {
     let len = out.len();
@@ -26,12 +27,12 @@ pub fn encode(request: &Request, out: &mut Bytes) -> Result<(), AllocError>
 
 // Of what follows, want of memory may leave a part of the bytes at the end.
 fn append(request: &Request, out: &mut Bytes) -> Result<(), AllocError>
-    requires { IsAllowed version_1 request.now.body }
-    ensures ok { OnOk result (Puts (Spells version_1 request.now) out.old out.new) }
+    requires { IsAllowed version_2 request.now.body }
+    ensures ok { OnOk result (Puts (Spells version_2 request.now) out.old out.new) }
     ensures err { OnErr result (Extends out.old out.new) }
 {
     out.push(MAGIC)?;
-    out.push(VERSION)?;
+    out.push(Version::Two.byte())?;
     out.push(request.body.kind().byte())?;
     put_u32(out, request.to)?;
     put_u32(out, request.from)?;
@@ -40,8 +41,8 @@ fn append(request: &Request, out: &mut Bytes) -> Result<(), AllocError>
 }
 
 fn append_body(body: &Body, out: &mut Bytes) -> Result<(), AllocError>
-    requires { IsAllowed version_1 body.now }
-    ensures ok { OnOk result (Puts (SpellsBody version_1 body.now) out.old out.new) }
+    requires { IsAllowed version_2 body.now }
+    ensures ok { OnOk result (Puts (SpellsBody version_2 body.now) out.old out.new) }
     ensures err { OnErr result (Extends out.old out.new) }
 {
     match body {
@@ -74,8 +75,8 @@ fn append_call(
     args: &List<Value>,
     out: &mut Bytes,
 ) -> Result<(), AllocError>
-    requires { IsAllowedList version_1 args.now }
-    ensures ok { OnOk result (Puts (SpellsCall version_1 object handler args.now) out.old out.new) }
+    requires { IsAllowedList version_2 args.now }
+    ensures ok { OnOk result (Puts (SpellsCall version_2 object handler args.now) out.old out.new) }
     ensures err { OnErr result (Extends out.old out.new) }
 {
     put_u32(out, object)?;
@@ -92,11 +93,11 @@ fn append_spot(spot: Spot, out: &mut Bytes) -> Result<(), AllocError>
 }
 
 fn append_list(args: &List<Value>, out: &mut Bytes) -> Result<(), AllocError>
-    requires { IsAllowedList version_1 args.now }
-    ensures ok { OnOk result (Puts (SpellsList version_1 args.now) out.old out.new) }
+    requires { IsAllowedList version_2 args.now }
+    ensures ok { OnOk result (Puts (SpellsList version_2 args.now) out.old out.new) }
     ensures err { OnErr result (Extends out.old out.new) }
 {
-    out.push(args.len() as u8)?;
+    put_u16(out, args.len() as u16)?;
     for value in args.as_slice() {
         put_value(out, *value)?;
     }

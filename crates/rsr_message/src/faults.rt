@@ -14,7 +14,7 @@ pub enum MessageFault {
     BadVersion,
     /// No message has this third byte.
     BadKind,
-    /// A list has no such number of values.
+    /// No list has a number of values with this byte.
     BadCount {
         /// The place of the byte in the message.
         at: u32,

@@ -2,13 +2,17 @@ ghost use Rattle.std.specs.Prelude.{◌≡◌, ◌≢◌, MatchOption};
 ghost use Rattle.rsr_message.specs.Shapes.{byte_of, fields_len, kind_of};
 
 use crate::requests::Body;
+use crate::versions::Version;
 
 /// The first byte of each message.
 pub(crate) const MAGIC: u8 = 0x52;
-/// The second byte of each message.
-pub(crate) const VERSION: u8 = 1;
-/// How many values a list has at most.
-pub(crate) const MOST_VALUES: usize = 8;
+
+/// What the first three bytes of a message tell.
+#[derive(Clone, Copy, Debug)]
+pub(crate) struct Head {
+    pub(crate) version: Version,
+    pub(crate) kind: Kind,
+}
 
 /// The kind of a request, which its third byte tells.
 #[derive(Clone, Copy, Debug, PartialEq, Eq)]

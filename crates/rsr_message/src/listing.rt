@@ -4,7 +4,7 @@ ghost use Rattle.marshal.specs.Spellings.{BeginsWith};
 ghost use Rattle.rsr_message.specs.declared.faults.MessageFault.{MessageFault};
 ghost use Rattle.rsr_message.specs.declared.requests.Request.{Request};
 ghost use Rattle.rsr_message.specs.Lines.{line_of};
-ghost use Rattle.rsr_message.specs.Requests.{version_1, Spells};
+ghost use Rattle.rsr_message.specs.Requests.{SpellsEither};
 ghost use Rattle.rsr_message.specs.Refusals.{IsCause};
 ghost use Rattle.rsr_message.specs.Streams.{IsStream};
 ghost use Rattle.rsr_message.specs.Listings.{Lists, FirstFault, Tells, fault_behind};
@@ -38,21 +38,21 @@ pub enum ListFault {
     Memory,
 }
 
-/// The lines of all messages of some bytes.
+/// The lines of all messages of some bytes, each in either version.
 pub fn list_messages(alloc: Global, bytes: &[u8]) -> Result<Listing, ListFault>
-    ensures listed { IfOk result (Lists version_1 bytes.now) }
-    ensures refused { (fault : MessageFault) (at : ℕ) → IsErrOf result (ListFault.No fault at) → FirstFault version_1 bytes.now fault at }
-    ensures no_list { (fault : MessageFault) (at : ℕ) → IsErrOf result (ListFault.No fault at) → IsStream version_1 bytes.now → ⊥ }
+    ensures listed { IfOk result (Lists bytes.now) }
+    ensures refused { (fault : MessageFault) (at : ℕ) → IsErrOf result (ListFault.No fault at) → FirstFault bytes.now fault at }
+    ensures no_list { (fault : MessageFault) (at : ℕ) → IsErrOf result (ListFault.No fault at) → IsStream bytes.now → ⊥ }
 
     // There is no other answer, but for want of memory.
-    ensures list { IsStream version_1 bytes.now → IsOk result ⊎ IsErrOf result ListFault.Memory }
-    ensures fault { (fault : MessageFault) (at : ℕ) → FirstFault version_1 bytes.now fault at → IsErrOf result (ListFault.No fault at) ⊎ IsErrOf result ListFault.Memory }
+    ensures list { IsStream bytes.now → IsOk result ⊎ IsErrOf result ListFault.Memory }
+    ensures fault { (fault : MessageFault) (at : ℕ) → FirstFault bytes.now fault at → IsErrOf result (ListFault.No fault at) ⊎ IsErrOf result ListFault.Memory }
 {
     list_all(alloc, bytes)
 }
 
 fn list_all(alloc: Global, bytes: &[u8]) -> Result<Listing, ListFault>
-    ensures { Tells version_1 bytes.now result }
+    ensures { Tells bytes.now result }
 {
     let mut lines = String::new(alloc);
     let mut messages = 0;
@@ -74,8 +74,8 @@ fn list_all(alloc: Global, bytes: &[u8]) -> Result<Listing, ListFault>
 
 // Puts the line of the message with which the bytes begin at the end, and says how many bytes the message has.
 fn put_line(alloc: Global, bytes: &[u8], lines: &mut String) -> Result<usize, MessageFault>
-    ensures ok { IfOk result (λ len. (request : Request) × BeginsWith (Spells version_1 request) bytes.now len × (string_bytes lines.new ≡ string_bytes lines.old ++ line_of request)) }
-    ensures refused { (fault : MessageFault) → fault ≢ MessageFault.Memory → IsErrOf result fault → IsCause version_1 bytes.now fault }
+    ensures ok { IfOk result (λ len. (request : Request) × BeginsWith (SpellsEither request) bytes.now len × (string_bytes lines.new ≡ string_bytes lines.old ++ line_of request)) }
+    ensures refused { (fault : MessageFault) → fault ≢ MessageFault.Memory → IsErrOf result fault → IsCause bytes.now fault }
 {
     let (request, len) = decode(alloc, bytes)?;
     match writeln!(lines, "{request}") {

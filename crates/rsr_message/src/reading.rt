@@ -3,26 +3,27 @@ ghost use Rattle.std.specs.Prelude.{◌≡◌, ◌≤◌, length, IfOk, OnErr};
 ghost use Rattle.std.specs.Int.{w16, w32};
 ghost use Rattle.marshal.specs.Spellings.{IsNumber, Takes, BeginsWith};
 ghost use Rattle.marshal.specs.Values.{SpellsValue, IsValue};
-ghost use Rattle.rsr_message.specs.Requests.{version_1, Spells, SpellsSpot, SpellsList, SpellsEach};
+ghost use Rattle.rsr_message.specs.Requests.{format_of, Spells, SpellsSpot, SpellsList, SpellsEach};
 ghost use Rattle.rsr_message.specs.Shapes.{HasShape, HasBodyShape, IsListKind, IsBody, IsList, AreValues, BeginsWithValue};
 
-use crate::kinds::Kind;
+use crate::kinds::{Head, Kind};
 use crate::requests::{Body, Request};
+use crate::versions::Version;
 use ccpp_edge::List;
 use global_ptr::{Spot, Value};
 use marshal::{take_u16, take_u32, take_value};
 use std::alloc::{AllocError, Global};
 
-/// The request that a message of the kind spells.
-pub(crate) fn read(alloc: Global, kind: Kind, message: &[u8]) -> Result<Request, AllocError>
-    requires { HasShape version_1 kind message.now }
-    ensures ok { IfOk result (λ request. Spells version_1 request message.now) }
-    ensures err { OnErr result (IsListKind kind) }
+/// The request that a message with that head spells.
+pub(crate) fn read(alloc: Global, head: Head, message: &[u8]) -> Result<Request, AllocError>
+    requires { HasShape (format_of head.version) head.kind message.now }
+    ensures ok { IfOk result (λ request. Spells (format_of head.version) request message.now) }
+    ensures err { OnErr result (IsListKind head.kind) }
 {
     let (to, rest) = next_u32(&message[3..]);
     let (from, rest) = next_u32(rest);
     let (ticket, rest) = next_u32(rest);
-    let body = read_body(alloc, kind, rest)?;
+    let body = read_body(alloc, head, rest)?;
     Ok(Request {
         to,
         from,
@@ -31,16 +32,17 @@ pub(crate) fn read(alloc: Global, kind: Kind, message: &[u8]) -> Result<Request,
     })
 }
 
-fn read_body(alloc: Global, kind: Kind, bytes: &[u8]) -> Result<Body, AllocError>
-    requires { HasBodyShape kind version_1 bytes.now }
-    ensures ok { IfOk result (IsBody version_1 kind bytes.now) }
-    ensures err { OnErr result (IsListKind kind) }
+fn read_body(alloc: Global, head: Head, bytes: &[u8]) -> Result<Body, AllocError>
+    requires { HasBodyShape head.kind (format_of head.version) bytes.now }
+    ensures ok { IfOk result (IsBody (format_of head.version) head.kind bytes.now) }
+    ensures err { OnErr result (IsListKind head.kind) }
 {
+    let Head { version, kind } = head;
     match kind {
         Kind::Call => {
             let (object, rest) = next_u32(bytes);
             let (handler, rest) = next_u16(rest);
-            let args = read_list(alloc, rest)?;
+            let args = read_list(alloc, version, rest)?;
             Ok(Body::Call {
                 object,
                 handler,
@@ -58,7 +60,7 @@ fn read_body(alloc: Global, kind: Kind, bytes: &[u8]) -> Result<Body, AllocError
         }
         Kind::Make => {
             let (class, rest) = next_u16(bytes);
-            let args = read_list(alloc, rest)?;
+            let args = read_list(alloc, version, rest)?;
             Ok(Body::Make { class, args })
         }
         Kind::Reply => {
@@ -68,7 +70,7 @@ fn read_body(alloc: Global, kind: Kind, bytes: &[u8]) -> Result<Body, AllocError
         Kind::Cast => {
             let (object, rest) = next_u32(bytes);
             let (handler, rest) = next_u16(rest);
-            let args = read_list(alloc, rest)?;
+            let args = read_list(alloc, version, rest)?;
             Ok(Body::Cast {
                 object,
                 handler,
@@ -78,11 +80,12 @@ fn read_body(alloc: Global, kind: Kind, bytes: &[u8]) -> Result<Body, AllocError
     }
 }
 
-fn read_list(alloc: Global, bytes: &[u8]) -> Result<List<Value>, AllocError>
-    requires { IsList version_1 bytes.now }
-    ensures { IfOk result (λ values. SpellsList version_1 values bytes.now) }
+fn read_list(alloc: Global, version: Version, bytes: &[u8]) -> Result<List<Value>, AllocError>
+    requires { IsList (format_of version) bytes.now }
+    ensures { IfOk result (λ values. SpellsList (format_of version) values bytes.now) }
 {
-    read_values(alloc, &bytes[1..])
+    let values = &bytes[version.count_len()..];
+    read_values(alloc, values)
 }
 
 fn read_values(alloc: Global, bytes: &[u8]) -> Result<List<Value>, AllocError>

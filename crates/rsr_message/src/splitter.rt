@@ -3,7 +3,7 @@ ghost use Rattle.marshal.specs.Spellings.{IsPartial, IsWrongAt};
 ghost use Rattle.rsr_message.specs.declared.faults.MessageFault.{MessageFault};
 ghost use Rattle.rsr_message.specs.declared.requests.Request.{Request};
 ghost use Rattle.rsr_message.specs.declared.splitter.FeedFault.TheVariants.{Memory};
-ghost use Rattle.rsr_message.specs.Requests.{version_1, IsMessage};
+ghost use Rattle.rsr_message.specs.Requests.{IsMessage};
 ghost use Rattle.rsr_message.specs.Streams.{IsStream, Passes, Stops, Feeds, Splits};
 
 use crate::faults::MessageFault;
@@ -14,7 +14,7 @@ use ccpp_edge::List;
 use std::alloc::{AllocError, Global};
 use std::marker::Model;
 
-/// Cuts a stream of messages that comes in pieces, wherever they are cut.
+/// Cuts a stream of messages, each in either version, that comes in pieces, wherever they are cut.
 ///
 /// Contracts see it as a flow: its `rest`, which is of no whole message yet, the number `passed` of the bytes before it, and
 /// once it is `closed`, the place of the first wrong byte in the stream and what is wrong there. This project's own.
@@ -34,7 +34,7 @@ struct Refusal {
 
 impl Model for Splitter {
     ghost use Rattle.marshal.specs.Spellings.{IsPartial};
-    ghost use Rattle.rsr_message.specs.Requests.{version_1, IsMessage};
+    ghost use Rattle.rsr_message.specs.Requests.{IsMessage};
     ghost use Rattle.rsr_message.specs.Streams.{Flow};
 
     ghost Value = { Flow };
@@ -43,7 +43,7 @@ impl Model for Splitter {
 
     ghost view = { λ splitter. record { rest = splitter.rest.items; passed = splitter.passed; closed = place_and_fault splitter.closed } };
 
-    ghost invariant = { λ splitter. IsPartial (IsMessage version_1) splitter.rest.items };
+    ghost invariant = { λ splitter. IsPartial IsMessage splitter.rest.items };
 }
 
 /// Why a piece is not taken.
@@ -89,11 +89,11 @@ impl Splitter {
         }
     }
 
-    /// The bytes that are of no whole message yet. They are fewer than the 126 of the longest message.
+    /// The bytes that are of no whole message yet. They are fewer than the 53,271 of the longest message.
     pub fn rest(&self) -> &[u8]
         ensures rest { result.now ≡ self.now.rest }
-        ensures partial { IsPartial (IsMessage version_1) result.now }
-        ensures few { length result.now < 126 }
+        ensures partial { IsPartial IsMessage result.now }
+        ensures few { length result.now < 53271 }
     {
         self.rest.as_slice()
     }
@@ -109,13 +109,13 @@ impl Splitter {
         out: &mut List<Request>,
     ) -> Result<(), FeedFault>
         requires { self.old.passed + length self.old.rest + length piece.now < 2 ^ 64 }
-        ensures ok { OnOk result (Passes version_1 self.old piece.now self.new out.old out.new) }
-        ensures err { IfErr result (λ fault. Stops version_1 self.old piece.now self.new out.old out.new fault) }
+        ensures ok { OnOk result (Passes self.old piece.now self.new out.old out.new) }
+        ensures err { IfErr result (λ fault. Stops self.old piece.now self.new out.old out.new fault) }
         ensures counted { OnOk result (self.new.passed + length self.new.rest ≡ self.old.passed + length self.old.rest + length piece.now) }
 
         // There is no other answer, but for want of memory.
         ensures closed { (at : ℕ) (fault : MessageFault) → self.old.closed ≡ Some (at, fault) → IsErrOf result (FeedFault.Closed at fault) }
-        ensures wrong { (at : ℕ) → self.old.closed ≡ None → IsWrongAt (IsStream version_1) (self.old.rest ++ piece.now) at →
+        ensures wrong { (at : ℕ) → self.old.closed ≡ None → IsWrongAt IsStream (self.old.rest ++ piece.now) at →
             ((fault : MessageFault) × IsErrOf result (FeedFault.Bad (self.old.passed + at) fault)) ⊎ IsErrOf result FeedFault.Memory }
     {
         self.take_piece(alloc, piece, out)
@@ -128,7 +128,7 @@ impl Splitter {
         out: &mut List<Request>,
     ) -> Result<(), FeedFault>
         requires { self.old.passed + length self.old.rest + length piece.now < 2 ^ 64 }
-        ensures { Feeds version_1 self.old piece.now self.new out.old out.new result }
+        ensures { Feeds self.old piece.now self.new out.old out.new result }
     {
         if let Some(Refusal { at, fault }) = self.closed {
             return Err(FeedFault::Closed { at, fault });
@@ -163,15 +163,15 @@ fn split(
     stream: &[u8],
     out: &mut List<Request>,
 ) -> Result<(usize, Option<MessageFault>), AllocError>
-    ensures ok { IfOk result (λ found. Splits version_1 stream.now found.0 found.1 out.old out.new) }
+    ensures ok { IfOk result (λ found. Splits stream.now found.0 found.1 out.old out.new) }
     ensures err { OnErr result ((more : List Request) × (out.new ≡ out.old ++ more)) }
 {
     let mut used = 0;
     loop {
         let rest = &stream[used..];
         match measure(rest) {
-            Ok((kind, len)) => {
-                out.push(read(alloc, kind, &rest[..len])?)?;
+            Ok((head, len)) => {
+                out.push(read(alloc, head, &rest[..len])?)?;
                 used += len;
             }
             Err(fault) => match fault {

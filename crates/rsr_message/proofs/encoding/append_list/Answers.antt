@@ -1,14 +1,15 @@
 -- The values so far are put, and the rest makes a list of them.
-use Rattle.std.proofs.Common.{◌≡◌, ◌<◌, ◌≤◌, ◌+◌, ◌++◌, [], length, drop, get_or, ◌∷◌, ap, subst, sym, arith}
+use Rattle.std.proofs.Common.{◌<◌, ◌≤◌, length, get_or, subst}
 use Rattle.std.proofs.lemmas.List.{drop_more}
 use Rattle.global_ptr.specs.declared.values.Value.TheVariants.{Void}
-use Rattle.marshal.specs.Spellings.{Puts}
+use Rattle.std.specs.Int.{w16}
+use Rattle.marshal.specs.Spellings.{IsNumber, Puts}
 use Rattle.marshal.specs.Values.{SpellsValue}
 use Rattle.rsr_message.proofs.EncodingSteps.{list_begun, list_more, list_done}
 use Rattle.rsr_message.proofs.encoding.append_list.Goals as goal
 
 pub loop-value-init : goal.loop-value-init
-loop-value-init c = list_begun _ _ _ c.requires.few (subst (λ n. c.push.new.self ≡ c.args.out.now ++ n ∷ []) c.len.ensures c.in_ok-push.ensures.ok)
+loop-value-init c = list_begun _ _ _ c.requires.few (subst (λ n. Puts (IsNumber w16 n) c.args.out.now c.put_u16.new.out) c.len.ensures c.in_ok-put_u16.ensures.ok)
 
 pub loop-value-preserved : goal.loop-value-preserved
 loop-value-preserved c =

@@ -1,7 +1,5 @@
-use Rattle.std.proofs.Common.{[], sym, refl}
+use Rattle.std.proofs.Common.{[], sym}
 use Rattle.std.proofs.lemmas.List.{append-nil}
-use Rattle.marshal.proofs.NumberLaws.{reads_back_8}
-use Rattle.rsr_message.specs.Requests.{version_1}
 use Rattle.rsr_message.proofs.RefusalLaws.{nothing_partial}
 use Rattle.rsr_message.proofs.PieceLaws as pieces
 use Rattle.rsr_message.proofs.ListingLaws as listings
@@ -9,14 +7,14 @@ use Rattle.rsr_message.proofs.laws.one_list.Goals as goal
 
 pub returns-clause-one : goal.returns-clause-one
 returns-clause-one c bytes requests others a b =
-    let nothing = pieces.partial_none version_1 reads_back_8 [] (nothing_partial version_1) in
-    (pieces.one_cut version_1 reads_back_8 bytes requests others [] []
+    let nothing = pieces.partial_none [] nothing_partial in
+    (pieces.one_cut bytes requests others [] []
     (record { spelling = bytes; spelled = a; whole = sym (append-nil bytes) })
     (record { spelling = bytes; spelled = b; whole = sym (append-nil bytes) })
     nothing nothing).0
 
 pub returns-clause-no_fault : goal.returns-clause-no_fault
-returns-clause-no_fault c = listings.no_list version_1 reads_back_8
+returns-clause-no_fault c = listings.no_list
 
 pub returns-clause-one_fault : goal.returns-clause-one_fault
-returns-clause-one_fault c = listings.one_fault version_1 reads_back_8
+returns-clause-one_fault c = listings.one_fault

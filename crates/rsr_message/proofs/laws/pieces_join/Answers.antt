@@ -1,6 +1,5 @@
-use Rattle.rsr_message.specs.Requests.{version_1}
 use Rattle.rsr_message.proofs.PieceLaws.{pieces_joined}
 use Rattle.rsr_message.proofs.laws.pieces_join.Goals as goal
 
 pub returns : goal.returns
-returns c = pieces_joined version_1
+returns c = pieces_joined

@@ -5,7 +5,7 @@ use Rattle.marshal.specs.Spellings.{BeginsWith}
 use Rattle.rsr_message.specs.declared.faults.MessageFault.TheVariants.{BadTag}
 use Rattle.rsr_message.specs.Shapes.{IsGiven}
 use Rattle.rsr_message.specs.Refusals.{IsRefused}
-use Rattle.rsr_message.proofs.LengthSteps.{each_begun, within, each_more, each_done, each_stopped}
+use Rattle.rsr_message.proofs.LengthSteps.{each_begun, each_more, each_done, each_stopped}
 use Rattle.rsr_message.proofs.lengths.values_len.Goals as goal
 
 pub loop-done-init : goal.loop-done-init

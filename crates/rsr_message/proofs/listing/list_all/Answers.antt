@@ -1,6 +1,5 @@
 -- One message more is listed, or the first that is none is told of.
 use Rattle.std.proofs.Common.{refl, sym, subst, Err}
-use Rattle.rsr_message.specs.Requests.{version_1}
 use Rattle.rsr_message.specs.Listings.{Tells}
 use Rattle.rsr_message.proofs.ListingLaws.{listed_begun, listed_more, listing_stops}
 use Rattle.rsr_message.proofs.listing.list_all.Goals as goal
@@ -13,5 +12,5 @@ loop-used-preserved c = let put = c.in-Ok.ensures.ok in listed_more _ c.loop-use
 
 pub returns-in-Err : goal.returns-in-Err
 returns-in-Err c =
-    subst (λ answer. Tells version_1 c.args.bytes.now (Err answer)) (sym c.fault_behind.ensures)
+    subst (λ answer. Tells c.args.bytes.now (Err answer)) (sym c.fault_behind.ensures)
     (listing_stops _ c.loop-used.used _ _ c.in-Err.fault c.loop-used.invariant c.loop-used-test.true (λ other. c.in-Err.ensures.refused c.in-Err.fault other refl))

@@ -1,7 +1,6 @@
-use Rattle.std.proofs.Common.{◌≤◌, length, arith}
 use Rattle.std.specs.Int.{w32}
 use Rattle.marshal.specs.Spellings.{IsNumber}
-use Rattle.rsr_message.proofs.ReadingSteps.{takes_follow, taken_long}
+use Rattle.rsr_message.proofs.ReadingSteps.{takes_follow}
 use Rattle.rsr_message.proofs.reading.next_spot.Goals as goal
 
 pub returns : goal.returns

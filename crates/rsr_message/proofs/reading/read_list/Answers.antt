@@ -1,16 +1,22 @@
-use Rattle.std.proofs.Common.{◌-◌, length, drop, subst, sym, arith}
+use Rattle.std.proofs.Common.{◌∙◌, drop, subst, sym, ap}
 use Rattle.std.proofs.lemmas.List.{take_rest}
 use Rattle.std.proofs.lemmas.Result.{IfOk-weaker}
-use Rattle.rsr_message.specs.Requests.{version_1, SpellsEach, SpellsList}
+use Rattle.rsr_message.specs.Requests.{format_of, SpellsEach, SpellsList}
 use Rattle.rsr_message.specs.Shapes.{AreValues}
-use Rattle.rsr_message.proofs.ReadingSteps.{list_some, list_values, list_of}
+use Rattle.rsr_message.proofs.ReadingSteps.{list_values, list_of}
 use Rattle.rsr_message.proofs.reading.read_list.Goals as goal
 
 pub read_values-requires : goal.read_values-requires
-read_values-requires c = subst AreValues (sym (take_rest c.args.bytes.now 1)) (list_values c.args.bytes.now c.requires)
+read_values-requires c =
+    let bytes = c.args.bytes.now in
+    let n = c.count_len.result in
+    subst AreValues (sym (take_rest bytes n ∙ ap (λ k. drop k bytes) c.count_len.ensures)) (list_values (format_of c.args.version) bytes c.requires)
 
 pub returns : goal.returns
 returns c =
-    IfOk-weaker _ _ (λ values. SpellsList version_1 values c.args.bytes.now)
-    (λ values each. list_of c.args.bytes.now values c.requires (subst (SpellsEach values) (take_rest c.args.bytes.now 1) each))
+    let f = format_of c.args.version in
+    let bytes = c.args.bytes.now in
+    let n = c.count_len.result in
+    IfOk-weaker _ _ (λ values. SpellsList f values bytes)
+    (λ values each. list_of f bytes c.requires values (subst (SpellsEach values) (take_rest bytes n ∙ ap (λ k. drop k bytes) c.count_len.ensures) each))
     c.read_values.ensures

@@ -1,8 +1,8 @@
 use Rattle.std.proofs.Common.{sym, subst}
 use Rattle.marshal.specs.Spellings.{IsPartial}
-use Rattle.rsr_message.specs.Requests.{version_1, IsMessage}
+use Rattle.rsr_message.specs.Requests.{IsMessage}
 use Rattle.rsr_message.proofs.RefusalLaws.{nothing_partial}
 use Rattle.rsr_message.proofs.splitter.Splitter.new.Goals as goal
 
 pub invariant_of-result : goal.invariant_of-result
-invariant_of-result c = subst (IsPartial (IsMessage version_1)) (sym c.new.ensures.items) (nothing_partial version_1)
+invariant_of-result c = subst (IsPartial IsMessage) (sym c.new.ensures.items) nothing_partial
