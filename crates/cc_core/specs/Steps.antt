@@ -162,3 +162,12 @@ Stands p limit n s (Done v) = IsAtRest p s × (threads_left s ≡ 0) × (fin.get
 Stands p limit n s (Blocked k) = IsAtRest p s × (threads_left s ≡ k) × (1 ≤ k)
 Stands p limit n s (Fault fault) = HasFault p s fault.kind fault.line × (n < limit)
 Stands p limit n s (Limit k) = (k ≡ limit) × (n ≡ limit) × (t : Name) × CanMove (step p t s)
+
+-- Some run of the program from these ints has at most so many steps, and at its end this output and this standing.
+pub record RunsTo (p : Program) (ns : List ℤ) (limit : ℕ) (output : List ℕ) (standing : Standing) : Type 0 where
+  pub steps : List Name
+  pub last : Config
+  pub run : Run p steps (start p ns) last
+  pub within : length steps ≤ limit
+  pub written : last.output ≡ output
+  pub stands : Stands p limit (length steps) last standing

@@ -5,19 +5,8 @@ ghost use Rattle.std.specs.FinMap as fin;
 ghost use Rattle.cc_core.specs.Names.{Name, Value};
 ghost use Rattle.cc_core.specs.Core.{Program};
 ghost use Rattle.cc_core.specs.Config.{Config, Ended, Object};
-ghost use Rattle.cc_core.specs.Steps.{Moves, Faults, Waits, step, Run};
+ghost use Rattle.cc_core.specs.Steps.{Run};
 ghost use Rattle.cc_core.specs.Laws.{IsReached, GoesOn, CountsGrow, ObjectStays, NamesAreFree};
-ghost use Rattle.global_ptr.specs.declared.ends.FaultKind.{FaultKind};
-
-/// A thread has at most one next move: one step, or one fault at one line, and not both; and no move where it waits.
-pub fn one_move()
-    ensures one_step { (p : Program) (t : Name) (s r q : Config) → step p t s ≡ Moves r → step p t s ≡ Moves q → r ≡ q }
-    ensures one_fault { (p : Program) (t : Name) (s : Config) (kind also : FaultKind) (line at : ℕ)
-        → step p t s ≡ Faults kind line → step p t s ≡ Faults also at → (kind ≡ also) × (line ≡ at) }
-    ensures no_step_and_fault { (p : Program) (t : Name) (s r : Config) (kind : FaultKind) (line : ℕ)
-        → step p t s ≡ Moves r → step p t s ≡ Faults kind line → ⊥ }
-    ensures no_step_while_waiting { (p : Program) (t : Name) (s r : Config) → step p t s ≡ Moves r → step p t s ≡ Waits → ⊥ }
-{}
 
 /// A run and a run from where it ends are one run, and a run may be cut anywhere.
 pub fn runs_compose()

@@ -1,4 +1,4 @@
-//! A source that breaks no rule of sharing has one answer.
+//! Where a source breaks no rule of sharing, one run of it that comes to rest decides every run from the same ints.
 #![tactic(auto)]
 
 ghost use Rattle.std.specs.Prelude.{◌≡◌, []};

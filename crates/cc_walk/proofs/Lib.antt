@@ -10,3 +10,4 @@ pub mod MoveLaws
 pub mod OrderLaws
 pub mod PostLaws
 pub mod StartLaws
+pub mod RestLaws

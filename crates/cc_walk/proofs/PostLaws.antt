@@ -37,7 +37,7 @@ use Rattle.numbered_runs.proofs.Naming.{thread_of}
 use Rattle.numbered_runs.proofs.Posts.{posts_alike}
 use Rattle.rsr_message.specs.declared.requests.Request.{Request}
 use Rattle.rsr_message.specs.declared.requests.Body.{Body}
-use Rattle.rsr_message.specs.Requests.{version_1, IsAllowedList}
+use Rattle.rsr_message.specs.Requests.{version_2, IsAllowedList}
 use Rattle.cc_walk.specs.Posted.{IsSendable, IsSaid, IsPosted, AsksFor, state_at}
 use Rattle.cc_walk.specs.Views.{live_of}
 
@@ -276,19 +276,19 @@ none_void : (sent : List RustValue) → NoneVoid (map value_of sent) → All (λ
 none_void [] none = All-nil {X = RustValue} (λ v. v ≢ machine.Void)
 none_void (v ∷ sent) none = All-cons (λ u. u ≢ machine.Void) v sent (λ e. none.0 (ap value_of e)) (none_void sent none.1)
 
-allowed_list : (sent : List RustValue) (vs : List (Value Address)) → map value_of sent ≡ vs → NoneVoid vs → length vs ≤ 8 → IsAllowedList version_1 sent
+allowed_list : (sent : List RustValue) (vs : List (Value Address)) → map value_of sent ≡ vs → NoneVoid vs → length vs ≤ 8 → IsAllowedList version_2 sent
 allowed_list sent vs is none few = record {
   few = let n : length (map value_of sent) ≤ 8 = subst (λ (us : List (Value Address)). length us ≤ 8) (sym is) few in omega (arith, n, length-map sent value_of);
   some = none_void sent (subst NoneVoid (sym is) none);
 }
 
 pub kinds_allowed : (params : List (List Kind)) (vs : List (Value Address)) → arity params ≤ 8 → (sent : List RustValue)
-    → map value_of sent ≡ as_kinds (all_kinds params) vs → IsAllowedList version_1 sent
+    → map value_of sent ≡ as_kinds (all_kinds params) vs → IsAllowedList version_2 sent
 kinds_allowed params vs few sent is =
     let kinds : List Kind = all_kinds params in
     allowed_list sent (as_kinds kinds vs) is (kinds_never_void kinds vs) (omega (arith, few, length_kinds kinds vs, length_arity params))
 
-pub void_allowed : (args sent : List RustValue) → length args ≤ 8 → map value_of sent ≡ map no_void (map value_of args) → IsAllowedList version_1 sent
+pub void_allowed : (args sent : List RustValue) → length args ≤ 8 → map value_of sent ≡ map no_void (map value_of args) → IsAllowedList version_2 sent
 void_allowed args sent few is =
     allowed_list sent (map no_void (map value_of args)) is (all_never_void (map value_of args))
     (omega (arith, few, length-map (map value_of args) no_void, length-map args value_of))

@@ -1,7 +1,7 @@
 -- Which threads of a walk can move, and what main has ended with.
 use Rattle.std.specs.Prelude.{◌≡◌, ◌<◌, ◌⊎◌, ◌↔◌, Bool, true, false, IsTrue, List, [], Contains, AllPairs, Option, Some, None, ℤ}
 use Rattle.std.specs.FinMap as fin
-use Rattle.cc_ops.specs.Values.{int_of}
+use Rattle.cc_ops.specs.Values.{Int, int_of}
 use Rattle.cc_core.specs.Names.{Name, Value}
 use Rattle.cc_core.specs.Core.{Program}
 use Rattle.cc_core.specs.Config.{Config, Thread, Live, Ended}
@@ -44,3 +44,8 @@ pub record AreAll (P : ThreadNo → Type 0) (ts : List ThreadNo) : Type 0 where
 abbrev pub IsMainValue : Config → Option ℤ → Type 0
 IsMainValue s None = (l : Thread) × (fin.get s.threads [] ≡ Some (Live l))
 IsMainValue s (Some i) = (v : Value) × (fin.get s.threads [] ≡ Some (Ended v)) × (i ≡ int_of v)
+
+-- the int that main has ended with; none where it has ended with no int, or goes on
+abbrev pub IsMainInt : Config → Option ℤ → Type 0
+IsMainInt s None = (i : ℤ) → ¬ (fin.get s.threads [] ≡ Some (Ended (Int i)))
+IsMainInt s (Some i) = fin.get s.threads [] ≡ Some (Ended (Int i))

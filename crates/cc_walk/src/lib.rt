@@ -11,6 +11,7 @@ mod effect;
 mod holders;
 mod limits;
 mod live;
+mod news;
 mod parameters;
 mod posts;
 mod printing;
@@ -22,5 +23,6 @@ mod table;
 mod waits;
 mod walk;
 
+pub use news::{Awaited, News};
 pub use numbered_runs::ThreadNo;
 pub use walk::{Stepped, Walk};

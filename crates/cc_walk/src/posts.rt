@@ -13,7 +13,7 @@ ghost use Rattle.code_thread.specs.View.{ask_of};
 ghost use Rattle.numbered_runs.specs.Machine.{thread_in};
 ghost use Rattle.numbered_runs.specs.Posts.{posts, posted};
 ghost use Rattle.numbered_runs.specs.Stands.{Stands};
-ghost use Rattle.rsr_message.specs.Requests.{version_1, IsAllowed, IsAllowedList};
+ghost use Rattle.rsr_message.specs.Requests.{version_2, IsAllowed, IsAllowedList};
 ghost use Rattle.cc_walk.specs.Posted.{IsSaid, IsPosted, AsksFor, IsSendable};
 ghost use Rattle.cc_walk.specs.Views.{machine_of};
 
@@ -38,7 +38,7 @@ impl Walk {
     pub fn asks(&self, t: ThreadNo) -> Result<Option<Request>, AllocError>
         ensures request { let w = machine_of self.now in IfOk result (IsPosted t (posts w.code (thread_in w.threads t))) }
         ensures follows { (p : Program) (s : Config) (n : Numbers) → Stands p (machine_of self.now) s n → IfOk result (AsksFor p s n t) }
-        ensures allowed { IfOk result (λ request. IfSome request (λ r. IsAllowed version_1 r.body)) }
+        ensures allowed { IfOk result (λ request. IfSome request (λ r. IsAllowed version_2 r.body)) }
     {
         let Some(ask) = self.asking(t) else {
             return Ok(None);
@@ -75,7 +75,7 @@ impl Walk {
 fn posted(alloc: Global, code: &Code, ask: &Ask) -> Result<Option<(u32, Body)>, AllocError>
     requires { let h = (code_of code.now).shapes in IsSendable h (ask_of h ask.now) }
     ensures said { IfOk result (IsSaid (posted (ask_of (code_of code.now).shapes ask.now))) }
-    ensures allowed { IfOk result (λ said. IfSome said (λ e. IsAllowed version_1 e.1)) }
+    ensures allowed { IfOk result (λ said. IfSome said (λ e. IsAllowed version_2 e.1)) }
 {
     match *ask {
         Ask::Reads(true, from) => Ok(get(from)),
@@ -90,7 +90,7 @@ fn posted(alloc: Global, code: &Code, ask: &Ask) -> Result<Option<(u32, Body)>, 
 /// A read of the cell at an address.
 fn get(from: Value) -> Option<(u32, Body)>
     ensures said { IsSaid (posted (asks.Reads true (value_of from))) result }
-    ensures allowed { IfSome result (λ e. IsAllowed version_1 e.1) }
+    ensures allowed { IfSome result (λ e. IsAllowed version_2 e.1) }
 {
     let Value::Ptr(at) = from else {
         return None;
@@ -103,7 +103,7 @@ fn get(from: Value) -> Option<(u32, Body)>
 fn put(to: Value, value: Value) -> Option<(u32, Body)>
     requires { value_of value ≢ values.Void }
     ensures said { IsSaid (posted (asks.Writes true (value_of to) (value_of value))) result }
-    ensures allowed { IfSome result (λ e. IsAllowed version_1 e.1) }
+    ensures allowed { IfSome result (λ e. IsAllowed version_2 e.1) }
 {
     let Value::Ptr(at) = to else {
         return None;
@@ -122,7 +122,7 @@ fn call(
     requires { function < length (code_of code.now).shapes.functions }
     ensures said { let shape = function_shape (code_of code.now).shapes function in
         IfOk result (IsSaid (posted (call_ask shape core.Remote function (map value_of args.now)))) }
-    ensures allowed { IfOk result (λ said. IfSome said (λ e. IsAllowed version_1 e.1)) }
+    ensures allowed { IfOk result (λ said. IfSome said (λ e. IsAllowed version_2 e.1)) }
 {
     let Value::Ptr(at) = first_of(args) else {
         return Ok(None);
@@ -145,7 +145,7 @@ fn cast(
     requires { function < length (code_of code.now).shapes.functions }
     ensures said { let shape = function_shape (code_of code.now).shapes function in
         IfOk result (IsSaid (posted (spawn_ask shape core.Remote function (map value_of args.now)))) }
-    ensures allowed { IfOk result (λ said. IfSome said (λ e. IsAllowed version_1 e.1)) }
+    ensures allowed { IfOk result (λ said. IfSome said (λ e. IsAllowed version_2 e.1)) }
 {
     let Value::Ptr(at) = first_of(args) else {
         return Ok(None);
@@ -168,7 +168,7 @@ fn make(
     requires there { class < length (code_of code.now).shapes.classes }
     requires count { length args.now ≡ (class_shape (code_of code.now).shapes class).params }
     ensures said { IfOk result (IsSaid (posted (object_ask true class (map value_of args.now)))) }
-    ensures allowed { IfOk result (λ said. IfSome said (λ e. IsAllowed version_1 e.1)) }
+    ensures allowed { IfOk result (λ said. IfSome said (λ e. IsAllowed version_2 e.1)) }
 {
     let classes = code.classes();
     prove!(class < classes);
@@ -190,7 +190,7 @@ fn sent(
     requires { function < length (code_of code.now).shapes.functions }
     ensures values { let kinds = all_kinds (function_shape (code_of code.now).shapes function).params in
         IfOk result (λ sent. map value_of sent ≡ values.as_kinds kinds (values.after_first (map value_of args.now))) }
-    ensures allowed { IfOk result (IsAllowedList version_1) }
+    ensures allowed { IfOk result (IsAllowedList version_2) }
 {
     let shape = code.fun(function);
     as_kinds(alloc, shape.params.as_slice(), after_first(args))

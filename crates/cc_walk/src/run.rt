@@ -21,6 +21,7 @@ use crate::answer::Asker;
 use crate::effect::{Effect, Start};
 use crate::holders::leave_all;
 use crate::live::{Live, State};
+use crate::news::News;
 use crate::stop::Stop;
 use crate::walk::{Stepped, Walk};
 use code_thread::{Look, Thread};
@@ -57,8 +58,12 @@ impl Walk {
             self.table.note_seen(t, seen);
             return Stepped::Blocked;
         }
+        let news = News::of(&ask, live.inside.top().map(|inside| inside.object));
         match asker.answer(&ask, &mut self.objects, &mut self.output) {
-            Ok(effect) => stepped(self.go_on(t, effect)),
+            Ok(effect) => {
+                self.news = news;
+                stepped(self.go_on(t, effect))
+            }
             Err(Stop::Fault(kind)) => Stepped::Fault(ProgFault { kind, line }),
             Err(Stop::Memory) => Stepped::Memory,
         }
@@ -70,7 +75,10 @@ impl Walk {
             IsAsking w t r line ask k → IsStep (join w t r k (ended_with (thread_in w.threads kid))) w result (machine_of self.new) }
     {
         match self.table.ended(kid) {
-            Some(value) => stepped(self.join(t, value)),
+            Some(value) => {
+                self.news = News::none();
+                stepped(self.join(t, value))
+            }
             None => Stepped::Blocked,
         }
     }
@@ -112,6 +120,8 @@ impl Walk {
         self.table.add_processors(processors)?;
         let next = self.table.next(home);
         let kids = self.table.make_all(&self.code, home, threads)?;
+        self.news.first = next;
+        self.news.made = self.table.made(home).saturating_sub(next.thread);
         let Some(mut taken) = self.table.take(t) else {
             return Ok(());
         };

@@ -12,6 +12,7 @@ ghost use Rattle.cc_walk.specs.Begins.{entering, entered_runner};
 ghost use Rattle.cc_walk.specs.Views.{machine_of};
 
 use crate::live::{Inside, Live};
+use crate::news::News;
 use crate::parameters::parameters;
 use crate::table::Table;
 use crate::walk::Walk;
@@ -54,6 +55,7 @@ impl Walk {
             objects,
             table,
             output: Bytes::new(alloc),
+            news: News::none(),
         })
     }
 }

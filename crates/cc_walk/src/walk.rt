@@ -1,3 +1,4 @@
+use crate::news::News;
 use crate::table::Table;
 use ccpp_edge::Bytes;
 use global_ptr::ProgFault;
@@ -13,6 +14,7 @@ pub struct Walk {
     pub(crate) objects: Objects,
     pub(crate) table: Table,
     pub(crate) output: Bytes,
+    pub(crate) news: News,
 }
 
 /// What became of a step.

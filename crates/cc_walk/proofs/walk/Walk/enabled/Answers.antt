@@ -4,6 +4,7 @@ use Rattle.cc_walk.specs.Enabled.{IsMoveable, CanMove}
 use Rattle.cc_walk.specs.Views.{machine_of}
 use Rattle.cc_walk.proofs.MoveLaws.{moves_alike, past_made, past_processors}
 use Rattle.cc_walk.proofs.OrderLaws.{thread_no, none_there, none_at_all, same_first}
+use Rattle.cc_walk.proofs.RestLaws.{rests}
 use Rattle.cc_walk.proofs.walk.Walk.enabled.Goals as goal
 
 pub loop-processor-preserved : goal.loop-processor-preserved
@@ -34,3 +35,6 @@ returns-clause-follows c = λ p s n stands.
     let few : length w.threads ≤ q = omega arith in
     same_first (IsMoveable w) (CanMove p s n) (moves_alike p w s n stands) None
     (none_at_all (IsMoveable w) q c.loop-processor.invariant (past_processors w q few))
+
+pub returns-clause-rest : goal.returns-clause-rest
+returns-clause-rest c = λ p s n stands none. rests p (machine_of c.args.self.now) s n stands (returns-clause-follows c p s n stands)
