@@ -1,0 +1,11 @@
+pub mod Types
+pub mod Values
+pub mod Typing
+pub mod Asks
+pub mod Programs
+pub mod Runs
+pub mod Kinds
+pub mod Homes
+pub mod Strict
+pub mod Atomic
+pub mod Examples

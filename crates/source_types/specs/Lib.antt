@@ -1,0 +1,2 @@
+pub mod TypesOf
+pub mod Reading
