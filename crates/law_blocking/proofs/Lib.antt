@@ -1,0 +1,2 @@
+pub mod CalmLaws
+pub mod WholeLaws

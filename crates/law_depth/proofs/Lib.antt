@@ -1,0 +1,3 @@
+pub mod NestLaws
+pub mod SpelledLaws
+pub mod StatementNests

@@ -1,0 +1,2 @@
+pub mod InnermostLaws
+pub mod MeaningLaws

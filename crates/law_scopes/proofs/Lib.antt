@@ -1,0 +1,14 @@
+pub mod Runs
+pub mod Reading
+pub mod TermLaws
+pub mod ScopeLaws
+pub mod OperatorLaws
+pub mod CallLaws
+pub mod ObjectLaws
+pub mod PartLaws
+pub mod ExpressionLaws
+pub mod ResolvedLaws
+pub mod LeavesLaws
+pub mod TextLaws
+pub mod StatementWalks
+pub mod NearestLaws

@@ -1,0 +1,12 @@
+pub mod Leaves
+pub mod ScopeLaws
+pub mod OperatorLaws
+pub mod CallLaws
+pub mod ObjectLaws
+pub mod PartLaws
+pub mod ExpressionLaws
+pub mod Adds
+pub mod DeclaredLaws
+pub mod SimpleLaws
+pub mod StatementLaws
+pub mod WholeLaws
