@@ -1,0 +1,15 @@
+pub mod Lists
+pub mod Settle
+pub mod Verdict
+pub mod Branches
+pub mod Apply
+pub mod Away
+pub mod Moved
+pub mod Rest
+pub mod Local
+pub mod Acted
+pub mod Answers
+pub mod Queues
+pub mod Pour
+pub mod Begins
+pub mod Source
