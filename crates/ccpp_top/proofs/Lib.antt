@@ -1,12 +1,5 @@
-mod AnswerLaws
+pub mod TraceLaws
+pub mod AnswerLaws
 mod CodeLaws
-mod Codes
-pub mod FormLaws
-mod Maps
-mod Outcomes
-mod Runs
-mod SizeLaws
-mod SourceLaws
-mod Statements
-mod Sums
-mod WordsLaws
+pub mod DecideLaws
+pub mod LoadLaws

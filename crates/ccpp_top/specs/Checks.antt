@@ -1,36 +1,21 @@
 -- What is answered on sources: by every command why one is refused, and by `check`, `share` and `code` what is said of its program.
 use Rattle.std.specs.Prelude.{ℕ, List, codes}
 use Rattle.cc_code.specs.Layout.{layout}
-use Rattle.cc_core.specs.View.{program_of}
-use Rattle.cc_core.specs.Report.{Sharing, Determinate, Shared, line, sharing_text}
-use Rattle.cc_scopes.specs.Sharing.{share_name}
+use Rattle.cc_shared.specs.OneAnswer.{core_of}
+use Rattle.cc_core.specs.Report.{line, sharing_text}
+use Rattle.cc_engine.specs.Report.{sharing_of}
 use Rattle.cc_tree.specs.declared.declarations.Program.{Program}
-use Rattle.cc_types.specs.Program.{core_program}
 use Rattle.code_listing.specs.Listing.{listing_of}
-use Rattle.sharing_check.specs.declared.answer.Sharing.{Sharing as Found}
-use Rattle.sharing_check.specs.declared.answer.Sharing.TheVariants as found
-use Rattle.sharing_check.specs.Sharing as rules
-use Rattle.ccpp_top.specs.declared.source.Refusal.{Refusal}
+use Rattle.ccpp_source.specs.declared.source.Refusal.{Refusal}
+use Rattle.ccpp_source.specs.Source.{IsSource, IsRefusedFor, refusal_text}
 use Rattle.ccpp_top.specs.declared.status.Status.{Status}
 use Rattle.ccpp_top.specs.declared.status.Status.TheVariants.{Done, SourceRefused}
-use Rattle.ccpp_top.specs.Source.{IsSource, IsRefusedFor, refusal_text}
 
 -- What is answered on a file of these bytes by a command that says so of programs: why it is refused, exactly where it is no
 -- source; else what is said of its program.
 pub data OnSource (Says : Program → (text : List ℕ) → Status → Type 0) (source : List ℕ) : (text : List ℕ) → Status → Type 0 where
   refused : (why : Refusal) → IsRefusedFor source why → OnSource Says source (line (refusal_text why)) SourceRefused
   said : (program : Program) {text : List ℕ} {end : Status} → IsSource source program → Says program text end → OnSource Says source text end
-
--- ---- the rules of sharing
-
--- the broken rule that is named, as a report prints it
-abbrev pub shown : Found → Sharing
-shown found.Determinate = Determinate
-shown (found.Shared rule line) = Shared (share_name rule) line
-
--- whether a program breaks a rule of sharing: the one with the least line, and at one line with the least number
-abbrev pub sharing_of : Program → Sharing
-sharing_of program = shown (rules.sharing program)
 
 -- ---- the commands
 
@@ -42,7 +27,7 @@ pub data SaysSharing (program : Program) : (text : List ℕ) → Status → Type
 
 -- the listing of the code of its core, which is the layout
 pub data SaysCode (program : Program) : (text : List ℕ) → Status → Type 0 where
-  listed : SaysCode program (listing_of (layout (program_of (core_program program)))) Done
+  listed : SaysCode program (listing_of (layout (core_of program))) Done
 
 -- what `check` answers
 abbrev pub Checks : (source text : List ℕ) → Status → Type 0

@@ -1,12 +1,9 @@
+-- What the command answers, and why it ends with a status.
 pub mod Answers
 pub mod Checks
-pub mod Code
-pub mod Early
-pub mod Execution
-pub mod Form
-pub mod Machine
+pub mod Decides
+pub mod Loads
+pub mod Traces
 pub mod Messages
-pub mod Operator
-pub mod Source
+pub mod Migrations
 pub mod Status
-pub mod Words

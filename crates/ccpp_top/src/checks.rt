@@ -3,11 +3,11 @@ ghost use Rattle.cc_types.specs.Program.{IsWellFormed};
 ghost use Rattle.ccpp_top.specs.Checks.{Checks, Shares, Lists, SaysCode};
 
 use crate::answer::Answer;
-use crate::source::read_source;
 use crate::status::Status;
 use cc_lower::lower;
 use cc_types::Checked;
 use ccpp_edge::{Bytes, Memory};
+use ccpp_source::read_source;
 use code_listing::listing;
 use sharing_check::sharing;
 use std::alloc::Global;

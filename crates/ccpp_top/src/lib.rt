@@ -1,25 +1,16 @@
-//! The command `ccpp`: what its words ask for, what it writes, and the status with which it ends.
+//! The command `ccpp`: what it writes, and the status with which it ends.
 #![tactic(auto)]
 
 mod answer;
 mod call;
 mod checks;
-mod code;
-mod command;
-mod early;
-mod fault;
-mod form;
-mod machine;
+mod load;
 mod message;
-mod operator;
-mod outcome;
+mod migrate;
 mod run;
-mod size;
-mod source;
-mod stack;
 mod status;
-mod word;
+mod trace;
 
 pub use call::ccpp;
+pub use ccpp_words::Word;
 pub use status::Status;
-pub use word::Word;

@@ -1,8 +1,9 @@
 ghost use Rattle.std.specs.Prelude.{IfOk};
 ghost use Rattle.ccpp_top.specs.Messages.{Messages};
 
-use crate::answer::{Answer, push_line};
+use crate::answer::Answer;
 use crate::status::Status;
+use cc_engine::push_line;
 use ccpp_edge::Memory;
 use rsr_message::{ListFault, Listing, list_messages};
 use std::alloc::{AllocError, Global};

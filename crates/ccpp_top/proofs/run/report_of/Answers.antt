@@ -1,18 +1,15 @@
-use Rattle.std.proofs.Common.{◌∙◌, ap, sym}
+use Rattle.std.proofs.Common.{length, refl, sym, ◌∙◌}
 use Rattle.std.proofs.lemmas.Result.{IfOk-weaker}
-use Rattle.ccpp_top.specs.Form.{early_of}
-use Rattle.ccpp_top.proofs.AnswerLaws.{was_run, was_not_yet}
+use Rattle.ccpp_top.proofs.AnswerLaws.{was_run, was_int_count}
 use Rattle.ccpp_top.proofs.run.report_of.Goals as goal
 
-pub run-requires : goal.run-requires
-run-requires c = (c.program.result.now, c.in-Ok.ensures)
+pub returns-then-takes-got : goal.returns-then-takes-got
+returns-then-takes-got g c =
+    let ints = c.args.asked.ints.now in
+    let takes = c.main_parameters.result in
+    IfOk-weaker c.line.result _ _ (was_int_count c.args.checked.now ints c.args.asked.limit takes (length ints) c.as_str.result.now c.main_parameters.ensures refl c.if-takes-got.true (c.as_str.ensures.value ∙ c.in_ok-format.ensures.ok)) c.line.ensures
 
-pub returns-in_ok-outcome-in-Ok : goal.returns-in_ok-outcome-in-Ok
-returns-in_ok-outcome-in-Ok c =
-    let form = ap early_of (sym c.program.ensures.value) ∙ c.in-Ok.ensures in
-    IfOk-weaker c.report.result _ _ (was_run c.args.checked.now c.in-Ok.early c.in_ok-outcome-in-Ok.outcome.output c.in_ok-outcome-in-Ok.outcome.standing c.sharing.result form c.in_ok-outcome-in-Ok.ensures c.sharing.ensures.answer) c.report.ensures
-
-pub returns-in-Err-NotYet : goal.returns-in-Err-NotYet
-returns-in-Err-NotYet c =
-    let none = ap early_of (sym c.program.ensures.value) ∙ (rw c.in-Err-NotYet.field-0-is at c.in-Err-NotYet.ensures) (λ e. cc e) in
-    IfOk-weaker c.line.result _ _ (was_not_yet c.args.checked.now none) c.line.ensures
+pub returns : goal.returns
+returns g c =
+    let outcome = c.in_ok-outcome.outcome in
+    IfOk-weaker c.report.result _ _ (was_run c.args.checked.now c.args.asked.ints.now c.args.asked.limit outcome.output outcome.ended c.sharing.result (sym c.main_parameters.ensures ∙ c.if-takes-got.false) c.in_ok-outcome.ensures.run c.sharing.ensures.answer) c.report.ensures

@@ -1,0 +1,2 @@
+-- The text of the load program.
+pub mod LoadSource

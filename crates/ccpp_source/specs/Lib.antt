@@ -1,0 +1,2 @@
+-- Which texts are sources, and why another is refused.
+pub mod Source

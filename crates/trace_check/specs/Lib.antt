@@ -1,0 +1,3 @@
+pub mod Migration
+pub mod Replays
+pub mod Verdicts
