@@ -6,6 +6,8 @@
 //! computes it, and the rules that atomic functions break by it.
 //!
 //! What an atomic function may do is this project's own.
+//!
+//! The crate knows what is noted while functions are read (`cc_scopes`). It must know nothing of the core, and of how a function is read.
 #![tactic(auto)]
 
 mod conduct;

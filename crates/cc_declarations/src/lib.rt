@@ -1,6 +1,8 @@
 //! Reading types, parameters and declarations of variables.
 //!
 //! Each function that reads answers what the reader of its symbol does, which `cc_grammar` defines.
+//!
+//! The crate knows the grammar and its expressions (`cc_expressions`). It must know nothing of statements, names and types.
 #![tactic(auto)]
 
 mod declarations;

@@ -4,6 +4,8 @@
 //! pointer may be a sync variable itself. Only a global pointer leads to a global class. A variable may also be an object of a
 //! class that is not global. A parameter is a plain `int` or a plain pointer, and a result is that or `void`. The rules are
 //! this project's own.
+//!
+//! The crate knows scopes and the typing of expressions (`cc_typing`). It must know nothing of statements and of the tables that it fills.
 #![tactic(auto)]
 
 mod allowed;

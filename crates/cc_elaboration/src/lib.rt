@@ -7,6 +7,8 @@
 //!
 //! Where a rule is broken the core says nothing. The rules and their names are this project's own; the language is that of
 //! Chandy and Kesselman's CC++ definition and of Foster, Designing and Building Parallel Programs, chapter 5.
+//!
+//! The crate knows expressions and declared types by their outcomes. It must know nothing of functions and classes as a whole, and of steps.
 #![tactic(auto)]
 
 mod assignments;

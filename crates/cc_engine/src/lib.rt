@@ -2,6 +2,8 @@
 //!
 //! A run is what the source definition says, and the contracts speak of that alone: how the run is made is this crate's own affair.
 //! Today the tree stepper makes it, in turns of a few steps by each thread that can move.
+//!
+//! The crate knows the stepper (`cc_walk`) and the laws of typed sources. It must know nothing of words, files and trees.
 #![tactic(auto)]
 
 mod execution;

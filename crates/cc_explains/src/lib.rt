@@ -1,4 +1,7 @@
 //! When a run of a program explains a journal, and which entry of it none explains, and why.
+//!
+//! The crate knows the definition of a run, its numbers and the bytes of requests. It must know nothing of how a run is stepped or a journal
+//! checked.
 #![tactic(auto)]
 
 ghost use Rattle.std.specs.Prelude.{◌≡◌, ℕ, List, map, length, Option, ℤ};

@@ -7,6 +7,8 @@
 //!
 //! The rules and their names are this project's own; the language is that of Chandy and Kesselman's CC++ definition and of
 //! Foster, Designing and Building Parallel Programs, chapter 5.
+//!
+//! The crate knows statements, tables and who may block by their outcomes. It must know nothing of tokens, and of steps.
 #![tactic(auto)]
 
 mod builds;

@@ -1,4 +1,6 @@
 //! One run that comes to rest decides every run, where the moves of different threads commute.
+//!
+//! The crate knows the core language and its steps alone. It must know nothing of sources and of the rules of sharing.
 #![tactic(auto)]
 
 ghost use Rattle.std.specs.Prelude.{◌≡◌, ℕ, List, length, ℤ};

@@ -5,6 +5,8 @@
 //! outcome that its word gives, and fails for want of memory alone.
 //!
 //! The rules are this project's own; the operators are those of C++.
+//!
+//! The crate knows scopes and the operators of the machine (`cc_ops`). It must know nothing of names, calls and statements.
 #![tactic(auto)]
 
 mod folding;

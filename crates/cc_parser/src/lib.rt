@@ -2,6 +2,8 @@
 //!
 //! Each function that reads answers what the reader of its symbol does, which `cc_grammar` defines; that a reader reads exactly
 //! its symbol is proved there. Reading recurs in nesting alone.
+//!
+//! The crate knows what reads statements and declarations. It must know nothing of names and types.
 #![tactic(auto)]
 
 mod fault;

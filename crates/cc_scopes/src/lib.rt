@@ -13,6 +13,8 @@
 //!
 //! The rules and their names are this project's own; the language is that of Chandy and Kesselman's CC++ definition and of
 //! Foster, Designing and Building Parallel Programs, chapter 5.
+//!
+//! The crate knows the names of a program (`cc_names`) and the forms of the core. It must know nothing of operators, statements and steps.
 #![tactic(auto)]
 
 mod lengths;

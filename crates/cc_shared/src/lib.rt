@@ -1,4 +1,7 @@
 //! Where a source breaks no rule of sharing, one run of it that comes to rest decides every run from the same ints.
+//!
+//! The crate knows the rules of sharing as the front end collects them, and the law of one answer (`cc_one_answer`). It must know nothing of
+//! code.
 #![tactic(auto)]
 
 ghost use Rattle.std.specs.Prelude.{◌≡◌, []};

@@ -2,6 +2,8 @@
 //!
 //! Each function that reads answers what the reader of its symbol does, which `cc_grammar` defines; so a contract is one line,
 //! and that it reads exactly its symbol is proved there.
+//!
+//! The crate knows expressions. It must know nothing of statements that hold others, and of names and types.
 #![tactic(auto)]
 
 mod assignments;

@@ -1,4 +1,7 @@
 //! What the front end leaves of a well-formed program.
+//!
+//! The crate knows what the front end makes of a tree (`cc_types`), and which programs the compiler takes. It must know nothing of how either
+//! is computed, and of steps.
 #![tactic(auto)]
 
 ghost use Rattle.std.specs.Prelude.{◌<◌, ◌≤◌, length};

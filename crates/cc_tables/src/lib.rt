@@ -5,6 +5,8 @@
 //! those before it; the types of fields, parameters and results are those of `cc_declared`. `Tables` in `specs/` is the definition.
 //!
 //! The tables are this project's own.
+//!
+//! The crate knows declared types (`cc_declared`). It must know nothing of bodies of functions.
 #![tactic(auto)]
 
 mod constants;

@@ -5,6 +5,9 @@
 //!
 //! `Program` in `specs/` says which programs are well formed, and `Elaboration` what is made of one. The rules are this project's
 //! own.
+//!
+//! The crate knows how items are read (`cc_functions`), and it alone says what a checked program is. It must know nothing of code, of steps and
+//! of files.
 #![tactic(auto)]
 
 mod checked;

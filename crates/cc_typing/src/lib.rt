@@ -8,6 +8,8 @@
 //!
 //! The rules and their names are this project's own; the language is that of Chandy and Kesselman's CC++ definition and of
 //! Foster, Designing and Building Parallel Programs, chapter 5.
+//!
+//! The crate knows scopes and operators. It must know nothing of statements and of steps.
 #![tactic(auto)]
 
 mod calls;

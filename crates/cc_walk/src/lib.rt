@@ -2,6 +2,9 @@
 //!
 //! A [`Walk`] stands for a configuration of the definition, with its threads and objects numbered as the run numbers its names:
 //! processors, and the threads and objects of each processor, from 0 in the order made.
+//!
+//! The crate knows the machine of numbers and its law (`numbered_runs`), threads of code, and checked programs. It must know nothing of
+//! schedules, of reports and of journals.
 #![tactic(auto)]
 
 mod answer;

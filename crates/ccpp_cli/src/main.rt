@@ -2,6 +2,8 @@
 //!
 //! The command is answered in a thread of its own, for its stack: what the front end leaves of a source nests as deep as the longest
 //! chain of operators.
+//!
+//! The crate knows the command (`ccpp_top`) and the edge. It must know nothing of the language.
 #![tactic(auto)]
 
 use ccpp_edge::{List, Memory, OpenGate, RealShelf, RealSink};

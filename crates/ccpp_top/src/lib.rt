@@ -1,4 +1,6 @@
 //! The command `ccpp`: what it writes, and the status with which it ends.
+//!
+//! The crate knows words, texts and what each command calls. It must know nothing of how a source is read or a run is made.
 #![tactic(auto)]
 
 mod answer;

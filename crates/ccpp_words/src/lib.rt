@@ -1,4 +1,6 @@
 //! The words of the command line of `ccpp`, and what they ask for.
+//!
+//! The crate knows bytes alone. It must know nothing of what a command does.
 #![tactic(auto)]
 
 mod command;

@@ -1,4 +1,6 @@
 //! The law that a stream of messages, once it is closed, stays closed, whatever comes.
+//!
+//! The crate knows the splitter's contract (`rsr_message`). It must know nothing of its body.
 #![tactic(auto)]
 
 ghost use Rattle.std.specs.Prelude.{◌≡◌, ℕ, List, Some, Err, length, replicate};

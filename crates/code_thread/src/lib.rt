@@ -1,4 +1,7 @@
 //! One thread of code: what it asks next, and how it goes on after the answer.
+//!
+//! The crate knows code and what a thread of numbers asks (`numbered_threads`). It must know nothing of other threads, of cells and of
+//! processors.
 #![tactic(auto)]
 
 mod ask;

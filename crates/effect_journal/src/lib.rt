@@ -1,4 +1,6 @@
 //! The journal of a run as text: what each thread did, which requests were served, and how the run ended, one entry a line.
+//!
+//! The crate knows addresses, standings and bytes. It must know nothing of what a request says, and of runs.
 #![tactic(auto)]
 
 mod entry;

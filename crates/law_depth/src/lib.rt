@@ -1,4 +1,6 @@
 //! How deep the trees nest that tokens spell.
+//!
+//! The crate knows the grammar. It must know nothing of names and types.
 #![tactic(auto)]
 
 ghost use Rattle.std.specs.Prelude.{ℕ, ◌+◌, ◌*◌, ◌≤◌};

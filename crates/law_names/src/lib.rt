@@ -1,4 +1,6 @@
 //! What a name means, without the search that finds it.
+//!
+//! The crate knows scopes and the names of a program. It must know nothing of statements.
 #![tactic(auto)]
 
 ghost use Rattle.std.specs.Prelude.{◌≡◌, List, Some, None};

@@ -1,4 +1,6 @@
 //! The law that the load program is a source of the profile, whatever its size.
+//!
+//! The crate knows the text of the load program and the definitions of the front end. It must know nothing of their bodies, and of runs.
 #![tactic(auto)]
 
 ghost use Rattle.std.specs.Prelude.{◌≡◌, ◌≤◌, ℕ, []};

@@ -5,6 +5,8 @@
 //! (`cc_scopes`); here the one is named that stands first, by its line, and at one line by its number.
 //!
 //! The rules are this project's own.
+//!
+//! The crate knows the rules that the front end has collected. It must know nothing of how they are found, and of steps.
 #![tactic(auto)]
 
 mod answer;

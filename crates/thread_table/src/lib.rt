@@ -1,4 +1,6 @@
 //! The threads of one processor: their operands, the functions that they are inside, and what they wait for.
+//!
+//! The crate knows values and addresses. It must know nothing of code, of cells and of other processors.
 #![tactic(auto)]
 
 mod frame;

@@ -1,4 +1,6 @@
 //! Journals checked: whether a run of a program explains one, and what a journal of version 1 is in version 2.
+//!
+//! The crate knows the stepper (`cc_walk`) and what explains a journal (`cc_explains`). It must know nothing of schedules and of files.
 #![tactic(auto)]
 
 mod entries;

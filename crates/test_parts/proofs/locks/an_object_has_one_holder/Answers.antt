@@ -1,7 +1,7 @@
 use Rattle.std.specs.Prelude.{IsSome}
 use Rattle.std.specs.FinMap.{get}
 use Rattle.atomic_objects.proofs.HeldLaws.{held-enter, held-wait}
-use Rattle.parts_tests.proofs.locks.an_object_has_one_holder.Goals as goal
+use Rattle.test_parts.proofs.locks.an_object_has_one_holder.Goals as goal
 
 pub wait-requires : goal.wait-requires
 wait-requires g c = rw c.in_ok-enter-2.ensures.locks (held-enter c.enter.new.self 7 1)

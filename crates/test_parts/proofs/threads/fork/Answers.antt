@@ -1,7 +1,7 @@
 use Rattle.std.proofs.Common.{None}
 use Rattle.std.proofs.lemmas.Result.{on_ok_weaker}
 use Rattle.thread_table.proofs.ReadLaws.{level-spawned}
-use Rattle.parts_tests.proofs.threads.fork.Goals as goal
+use Rattle.test_parts.proofs.threads.fork.Goals as goal
 
 pub returns : goal.returns
 returns c =

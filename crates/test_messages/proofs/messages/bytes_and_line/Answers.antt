@@ -6,7 +6,7 @@ use Rattle.rsr_message.specs.declared.versions.Version.{Version}
 use Rattle.rsr_message.specs.declared.versions.Version.TheVariants.{One, Two}
 use Rattle.rsr_message.specs.Requests.{version_1, version_2, format_of, IsAllowed, IsAllowedList}
 use Rattle.rsr_message.proofs.SpellingLaws.{spelled_allowed}
-use Rattle.message_tests.proofs.messages.bytes_and_line.Goals as goal
+use Rattle.test_messages.proofs.messages.bytes_and_line.Goals as goal
 
 few_values : (values : List Value) → IsAllowedList version_1 values → IsAllowedList version_2 values
 few_values values a = let few = a.few in record { few = omega arith; some = a.some }

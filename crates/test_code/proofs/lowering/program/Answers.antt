@@ -1,5 +1,5 @@
 use Rattle.cc_lower.proofs.OneFunction.{one_item, returns_constant}
-use Rattle.code_tests.proofs.lowering.program.Goals as goal
+use Rattle.test_code.proofs.lowering.program.Goals as goal
 
 pub returns : goal.returns
 returns c =

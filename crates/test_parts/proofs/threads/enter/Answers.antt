@@ -1,6 +1,6 @@
 use Rattle.std.proofs.lemmas.Result.{on_ok_weaker}
 use Rattle.thread_table.proofs.ReadLaws.{level-inside}
-use Rattle.parts_tests.proofs.threads.enter.Goals as goal
+use Rattle.test_parts.proofs.threads.enter.Goals as goal
 
 pub returns : goal.returns
 returns c =
