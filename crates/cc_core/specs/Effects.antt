@@ -1,6 +1,7 @@
 -- What a step changes besides what its own thread has left to do, as data: its effect.
 use Rattle.std.specs.Prelude.{ℕ, zero, suc, Bool, true, false, List, [], ◌∷◌, ◌++◌, length, drop, replicate}
 use Rattle.std.specs.Fmt.{signed_decimal}
+use Rattle.cc_ops.specs.Values as values
 use Rattle.cc_ops.specs.Values.{Ptr, fresh, started, Result, Gives, Fails, Plain, int_of, first, after_first}
 use Rattle.cc_ops.specs.Classes.{construct}
 use Rattle.cc_ops.specs.declared.kind.Kind.{Kind}
@@ -9,6 +10,40 @@ use Rattle.cc_core.specs.Core.{Term, Starts, PrintPart, Number, Text, Endl, Shap
 use Rattle.cc_core.specs.Asks.{Ask, Answer, Reads, Writes, Copies, Indexes, Shifts, Computes, Tests, Makes, MakesWith, Builds, Enters}
 use Rattle.cc_core.specs.Asks.{Leaves, ForksAll, ForksOne, Joins, Spawns, Prints, Calls, Casts, NewProcessor}
 use Rattle.cc_core.specs.Config.{Config, Thread, Object, home}
+
+-- ---- what names nothing, and is so for every N that names objects
+
+abbrev pub cells_with : {N : Type 0} → List Kind → List (values.Value N) → List (values.Cell N)
+cells_with [] vs = []
+cells_with (kind ∷ kinds) vs = started kind (first vs) ∷ cells_with kinds (after_first vs)
+
+abbrev pub constructed : {N : Type 0} → Result (List (values.Cell N)) → List (values.Cell N)
+constructed (Gives cells) = cells
+constructed (Fails kind) = []
+
+-- an int in decimal, a text as it is, a line feed
+abbrev pub printed : {N : Type 0} → List PrintPart → List (values.Value N) → List ℕ
+printed [] vs = []
+printed (Number ∷ parts) vs = signed_decimal (int_of (first vs)) ++ printed parts (after_first vs)
+printed (Text bytes ∷ parts) vs = bytes ++ printed parts vs
+printed (Endl ∷ parts) vs = 10 ∷ printed parts vs
+
+-- the functions that a thread is inside after a return
+abbrev pub left_behind : {N : Type 0} → List (ℕ × values.Value N) → List (ℕ × values.Value N)
+left_behind [] = []
+left_behind (e ∷ es) = es
+
+-- how many branches are made
+abbrev pub branch_count : {N : Type 0} → Ask N → ℕ
+branch_count (ForksAll n) = n
+branch_count (ForksOne v) = 1
+branch_count q = 0
+
+abbrev pub is_call : {N : Type 0} → Ask N → Bool
+is_call (Calls f o vs) = true
+is_call q = false
+
+-- ---- effects of a run's configuration
 
 -- objects: those that are made, in order; own: how many of them the thread itself makes.
 -- writes: the values written, each with its address. starts: the threads that are made, besides branches; each begins with a call.
@@ -32,31 +67,11 @@ object t l q cells = record (nothing l) { objects = (l.objects ∷ t, record { h
 abbrev pub start : Thread → ℕ → Value → List Value → Effect
 start l f o vs = record (nothing l) { starts = Starts f o vs ∷ [] }
 
-abbrev pub cells_with : List Kind → List Value → List Cell
-cells_with [] vs = []
-cells_with (kind ∷ kinds) vs = started kind (first vs) ∷ cells_with kinds (after_first vs)
-
 -- the objects of parameters, of which each takes as many values as it has cells; t makes them, from its object k on
 abbrev pub parameters : Name → (k : ℕ) → (q : Name) → List (List Kind) → List Value → List (Name × Object)
 parameters t k q [] vs = []
 parameters t k q (kinds ∷ more) vs =
     (k ∷ t, record { home = q; cells = cells_with kinds vs }) ∷ parameters t (suc k) q more (drop (length kinds) vs)
-
-abbrev pub constructed : Result (List Cell) → List Cell
-constructed (Gives cells) = cells
-constructed (Fails kind) = []
-
--- an int in decimal, a text as it is, a line feed
-abbrev pub printed : List PrintPart → List Value → List ℕ
-printed [] vs = []
-printed (Number ∷ parts) vs = signed_decimal (int_of (first vs)) ++ printed parts (after_first vs)
-printed (Text bytes ∷ parts) vs = bytes ++ printed parts vs
-printed (Endl ∷ parts) vs = 10 ∷ printed parts vs
-
--- the functions that a thread is inside after a return
-abbrev pub left_behind : List (ℕ × Value) → List (ℕ × Value)
-left_behind [] = []
-left_behind (e ∷ es) = es
 
 -- of an ask of t, where `found` are the values that its needs found
 abbrev pub effect : Shapes → Name → Thread → Ask Name → (found : List Value) → Effect
@@ -90,12 +105,6 @@ effect h t l (Casts f o vs) found = start l f o vs
 effect h t l (NewProcessor c vs) found =
     record (object t l (l.objects ∷ t) (constructed (construct same_name (class_shape h c) vs))) { processors = 1 }
 
--- how many branches are made
-abbrev pub branch_count : Ask Name → ℕ
-branch_count (ForksAll n) = n
-branch_count (ForksOne v) = 1
-branch_count q = 0
-
 -- how many objects a new thread counts as its own from the start
 abbrev pub first_objects : Ask Name → ℕ
 first_objects (ForksOne v) = 1
@@ -106,10 +115,6 @@ abbrev pub start_home : Config → Thread → Ask Name → Name
 start_home s l (Calls f o vs) = home s o
 start_home s l (Casts f o vs) = home s o
 start_home s l q = l.home
-
-abbrev pub is_call : Ask Name → Bool
-is_call (Calls f o vs) = true
-is_call q = false
 
 abbrev pub addresses : List (Name × Object) → List Value
 addresses [] = []

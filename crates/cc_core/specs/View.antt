@@ -17,7 +17,7 @@ use Rattle.cc_core.specs.declared.program.Program as rust_program
 use Rattle.cc_core.specs.Core as core
 use Rattle.cc_core.specs.Core.{How, Alone, On, Remote, PrintPart, Number, Text, Endl, Term, Push, This, Variable, Member, Index, At}
 use Rattle.cc_core.specs.Core.{Load, Unary, Binary, And, Or, New, NewObject, Call, Terms, NoTerms, MoreTerms, Stmt, Empty, AtLine}
-use Rattle.cc_core.specs.Core.{Make, Set, Build, Assign, Drop, Print, If, IfElse, While, For, Par, ParFor, Spawn, Return, Block}
+use Rattle.cc_core.specs.Core.{Make, Set, Build, Assign, Drop, Print, If, IfElse, While, For, Break, Continue, Par, ParFor, Spawn, Return, Block}
 use Rattle.cc_core.specs.Core.{Stmts, NoStmts, MoreStmts}
 
 abbrev pub constant_of : TextConstant → Constant
@@ -80,6 +80,8 @@ stmt_with (s.If c body) = If (term_of c) body
 stmt_with (s.IfElse c first second) = IfElse (term_of c) first second
 stmt_with (s.While c body) = While (term_of c) body
 stmt_with (s.For c step body) = For (term_of c) step body
+stmt_with s.Break = Break
+stmt_with s.Continue = Continue
 stmt_with (s.Par branches) = Par (stmts branches)
 stmt_with (s.ParFor k start test line value body) = ParFor k (term_of start) (term_of test) line (term_of value) body
 stmt_with (s.Spawn how f es) = Spawn (how_of how) f (terms_of es)

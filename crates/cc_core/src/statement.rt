@@ -26,6 +26,9 @@ pub enum Statement {
     While(Expression, Boxed<Statement>),
     /// A test, a step and a body. What comes before the first test is a statement of its own.
     For(Expression, Boxed<Statement>, Boxed<Statement>),
+    /// Leaves the innermost loop; ends its turn.
+    Break,
+    Continue,
     Par(List<Statement>),
     /// Over a variable: its start value, the test, and the line and the value of the assignment to it in the header's last
     /// part.

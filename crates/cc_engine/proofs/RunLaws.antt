@@ -16,7 +16,7 @@ use Rattle.cc_core.proofs.StepLaws.{run_joined}
 use Rattle.core_types.proofs.Rest.{stands as stands_typed}
 use Rattle.numbered_runs.specs.Machine.{Machine}
 use Rattle.numbered_runs.specs.Stands.{Stands}
-use Rattle.numbered_runs.specs.declared.number.ThreadNo.{ThreadNo}
+use Rattle.cc_ops.specs.declared.number.ThreadNo.{ThreadNo}
 use Rattle.cc_walk.specs.Answers.{Follows}
 use Rattle.cc_walk.specs.Enabled.{IsFirst, CanMove}
 use Rattle.cc_walk.specs.declared.walk.Stepped.TheVariants as stepped

@@ -5,7 +5,7 @@ use Rattle.cc_core.specs.Names.{Name}
 use Rattle.cc_core.specs.Core.{Program}
 use Rattle.cc_core.specs.Numbers.{Post, posts}
 use Rattle.cc_core.specs.Steps.{Waits, Faults, step}
-use Rattle.numbered_runs.specs.declared.number.ThreadNo.{ThreadNo}
+use Rattle.cc_ops.specs.declared.number.ThreadNo.{ThreadNo}
 use Rattle.numbered_runs.specs.Alike.{IsLive}
 use Rattle.numbered_runs.specs.Stands.{IsThread}
 use Rattle.rsr_message.specs.declared.requests.Request.{Request}

@@ -28,6 +28,7 @@ rule_name r.ReturnValue = codes "ReturnValue"
 rule_name r.ParforHeader = codes "ParforHeader"
 rule_name r.Constructor = codes "Constructor"
 rule_name r.AtomicBody = codes "AtomicBody"
+rule_name r.LoopOutside = codes "LoopOutside"
 
 abbrev pub limit_name : StaticLimit → List ℕ
 limit_name l.Classes = codes "Classes"
@@ -60,6 +61,7 @@ rule_number r.ReturnValue = 24
 rule_number r.ParforHeader = 25
 rule_number r.Constructor = 26
 rule_number r.AtomicBody = 27
+rule_number r.LoopOutside = 28
 
 abbrev pub limit_number : StaticLimit → ℕ
 limit_number l.Classes = 3

@@ -49,6 +49,8 @@ pub enum StaticRule {
     Constructor,
     /// An atomic function may wait, or do what might wait.
     AtomicBody,
+    /// `break` or `continue` is in no loop of its function, or a `par` or `parfor` stands between it and the nearest one.
+    LoopOutside,
 }
 
 /// A static rule that sets a limit to a number.
@@ -94,6 +96,7 @@ impl StaticRule {
             StaticRule::ParforHeader => "ParforHeader",
             StaticRule::Constructor => "Constructor",
             StaticRule::AtomicBody => "AtomicBody",
+            StaticRule::LoopOutside => "LoopOutside",
         }
     }
 

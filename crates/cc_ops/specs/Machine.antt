@@ -19,6 +19,9 @@ pub record Address : Type 0 where
 abbrev pub same_address : Address → Address → Bool
 same_address a b = (a.processor == b.processor) && (a.object == b.object)
 
+abbrev pub Values : Type 0
+Values = List (values.Value Address)
+
 abbrev pub value_of : Value → values.Value Address
 value_of machine.Void = Void
 value_of (machine.Int n) = Int n

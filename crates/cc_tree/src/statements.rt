@@ -143,6 +143,10 @@ pub enum StmtKind {
         /// What runs while the condition is not 0.
         body: Boxed<Stmt>,
     },
+    /// `break;`, which leaves the innermost loop.
+    Break,
+    /// `continue;`, which ends a turn of the innermost loop.
+    Continue,
     /// `par { .. }`, whose statements run concurrently.
     Par(List<Stmt>),
     /// `parfor (int name = start; test; step) body`, whose iterations run concurrently.

@@ -3,7 +3,7 @@ use Rattle.std.proofs.Common.{◌≡◌, false, List, [], ◌∷◌, map, Some, 
 use Rattle.std.specs.Prelude.{slice_get}
 use Rattle.cc_ops.specs.Machine.{value_of}
 use Rattle.cc_core.specs.Core.{Shapes}
-use Rattle.numbered_runs.specs.Machine.{Shelf}
+use Rattle.cc_ops.specs.Shelves.{Shelf}
 use Rattle.numbered_runs.specs.Effects.{note_held, leave}
 use Rattle.cc_walk.specs.Views.{inside_of}
 use Rattle.cc_walk.specs.declared.live.Inside.{Inside}

@@ -1,9 +1,9 @@
 -- Whether branches have ended, in whatever order they are looked at.
 use Rattle.std.proofs.Common.{◌≡◌, ℕ, zero, suc, Bool, true, false, ◌&&◌, List, [], ◌∷◌, ◌++◌, reverse, drop, refl, sym, ap, ◌∙◌}
 use Rattle.std.proofs.lemmas.Grind.{reverse_onto}
-use Rattle.numbered_runs.specs.declared.number.ThreadNo.{ThreadNo}
+use Rattle.cc_ops.specs.declared.number.ThreadNo.{ThreadNo}
 use Rattle.numbered_runs.specs.Machine.{Progress}
-use Rattle.numbered_runs.specs.Needs.{has_ended, all_ended}
+use Rattle.numbered_runs.specs.Looks.{has_ended, all_ended}
 
 and_false : (b : Bool) → (b && false) ≡ false
 and_false true = refl

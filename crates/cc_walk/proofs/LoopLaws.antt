@@ -10,8 +10,9 @@ use Rattle.cc_ops.specs.declared.kind.Kind.{Kind}
 use Rattle.cc_core.specs.View.{part_of}
 use Rattle.cc_core.specs.declared.expression.PrintPart.{PrintPart as TextPart}
 use Rattle.cc_core.specs.declared.expression.PrintPart.TheVariants as text
-use Rattle.numbered_runs.specs.Machine.{Shelf, put_thing, next_address}
-use Rattle.numbered_runs.specs.Effects.{cells_with, parameters, put_things, addresses, printed}
+use Rattle.cc_ops.specs.Shelves.{Shelf, put_thing, next_address}
+use Rattle.cc_core.specs.Effects.{cells_with, printed}
+use Rattle.numbered_runs.specs.Effects.{parameters, put_things, addresses}
 
 pub item_left : {X : Type 0} (xs : List X) (i : ℕ) (x : X) → i < length xs → x ≡ get_or xs i x → drop i xs ≡ x ∷ drop (i + 1) xs
 item_left xs i x inside at = drop_more xs i x inside ∙ ap (λ y. y ∷ drop (i + 1) xs) (sym at)

@@ -22,9 +22,11 @@ use Rattle.code_thread.specs.declared.ask.Ask.{Ask as RustAsk}
 use Rattle.code_thread.specs.declared.ask.Look.{Look}
 use Rattle.code_thread.specs.declared.ask.Look.TheVariants as look
 use Rattle.code_thread.specs.Moves.{Asking, seen}
-use Rattle.numbered_runs.specs.declared.number.ThreadNo.{ThreadNo}
+use Rattle.cc_ops.specs.declared.number.ThreadNo.{ThreadNo}
 use Rattle.numbered_runs.specs.Machine.{Machine, Runner, Progress, Goes, Over, thread_in, made_in, ended_with}
-use Rattle.numbered_runs.specs.Needs.{Verdict, Go, Hold, Bad, needs, check_all, is_some}
+use Rattle.cc_core.specs.Needs.{Verdict, Go, Hold, Bad}
+use Rattle.numbered_runs.specs.Looks.{needs, check_all}
+use Rattle.std.specs.Prelude.{is_some}
 use Rattle.numbered_runs.specs.Stands.{Stands, IsThread, Alike, SameState}
 use Rattle.numbered_runs.specs.Steps.{Outcome, Gone, Waits, Faults, Moves, decide, join, act_asked, act, act_progress, step}
 use Rattle.numbered_runs.specs.Alike.{IsLive, DoesAlike, main_thread}

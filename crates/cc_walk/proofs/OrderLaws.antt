@@ -4,7 +4,7 @@ use Rattle.std.proofs.lemmas.Bool.{cases_lt}
 use Rattle.std.proofs.lemmas.List.Elements.{Contains-push, Contains-push_cases, Contains-append_left, Contains-get_or}
 use Rattle.std.proofs.lemmas.List.Quantifiers.{all_pairs_push}
 use Rattle.std.specs.Prelude.{◌↔◌, Contains, get_or}
-use Rattle.numbered_runs.specs.declared.number.ThreadNo.{ThreadNo}
+use Rattle.cc_ops.specs.declared.number.ThreadNo.{ThreadNo}
 use Rattle.cc_walk.specs.Enabled.{IsBefore, IsFirst, AreAll}
 
 abbrev pub thread_no : ℕ → ℕ → ThreadNo

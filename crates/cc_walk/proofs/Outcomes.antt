@@ -11,10 +11,13 @@ use Rattle.cc_core.specs.Numbers.{Numbers}
 use Rattle.cc_core.specs.Asks.{Ask, Answer}
 use Rattle.cc_code.specs.Code.{Then, Move, Silent, Does, Ends, Stuck, move}
 use Rattle.code_thread.specs.Moves.{Asking, seen}
-use Rattle.numbered_runs.specs.declared.number.ThreadNo.{ThreadNo}
+use Rattle.cc_ops.specs.declared.number.ThreadNo.{ThreadNo}
 use Rattle.numbered_runs.specs.Alike.{DoesAlike}
-use Rattle.numbered_runs.specs.Machine.{Machine, Shelf, Progress, Goes, Over, Runner, thread_in, ended_with}
-use Rattle.numbered_runs.specs.Needs.{Values, Verdict, Go, Hold, Bad, needs, check_all}
+use Rattle.numbered_runs.specs.Machine.{Machine, Progress, Goes, Over, Runner, thread_in, ended_with}
+use Rattle.cc_ops.specs.Shelves.{Shelf}
+use Rattle.cc_ops.specs.Machine.{Values}
+use Rattle.cc_core.specs.Needs.{Verdict, Go, Hold, Bad}
+use Rattle.numbered_runs.specs.Looks.{needs, check_all}
 use Rattle.numbered_runs.specs.Stands.{Stands}
 use Rattle.numbered_runs.specs.Steps.{Outcome, Gone, Waits, Faults, Moves, decide, join, act, act_asked, act_progress, step}
 use Rattle.numbered_runs.proofs.Follow.{steps_follow}

@@ -29,7 +29,7 @@ use Rattle.cc_code.specs.Code.{Placed, Code, Frame, Thread, Runs, Starting, Fini
 use Rattle.cc_code.specs.Code.{popped, with_popped, top_one, act, fetched, move}
 use Rattle.cc_code.specs.Valid.{IsValid, IsMisaimed, in_range, stays, well_aimed, function_at}
 use Rattle.code_thread.specs.Moves.{Asking, seen}
-use Rattle.numbered_runs.specs.declared.number.ThreadNo.{ThreadNo}
+use Rattle.cc_ops.specs.declared.number.ThreadNo.{ThreadNo}
 use Rattle.numbered_runs.specs.Machine.{Machine, Runner, Progress, Goes, Over, thread_in}
 use Rattle.numbered_runs.specs.Posts.{posted, move_posts, posts}
 use Rattle.numbered_runs.specs.Stands.{Stands, thread_named}

@@ -12,7 +12,7 @@ use Rattle.cc_core.specs.Core.{Program}
 use Rattle.cc_core.specs.Config.{Config, Thread, State, Live, Ended}
 use Rattle.cc_core.specs.Numbers.{Numbers}
 use Rattle.cc_core.specs.Steps as core
-use Rattle.numbered_runs.specs.declared.number.ThreadNo.{ThreadNo}
+use Rattle.cc_ops.specs.declared.number.ThreadNo.{ThreadNo}
 use Rattle.numbered_runs.specs.Machine.{Machine, Progress, Goes, Over, thread_in, ended_with}
 use Rattle.numbered_runs.specs.Stands.{Stands, IsThread, Alike, SameState}
 use Rattle.numbered_runs.specs.Alike.{main_thread}

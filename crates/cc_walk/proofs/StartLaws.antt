@@ -19,8 +19,9 @@ use Rattle.cc_tree.specs.declared.declarations.Program.{Program as Source}
 use Rattle.cc_types.specs.Program.{IsWellFormed, core_program}
 use Rattle.numbered_runs.specs.Alike.{first_machine, ints}
 use Rattle.numbered_runs.specs.Effects.{parameters, put_things, addresses}
-use Rattle.numbered_runs.specs.Machine.{Machine, no_shelf}
-use Rattle.numbered_runs.specs.Needs.{Values}
+use Rattle.numbered_runs.specs.Machine.{Machine}
+use Rattle.cc_ops.specs.Shelves.{no_shelf}
+use Rattle.cc_ops.specs.Machine.{Values}
 use Rattle.numbered_runs.specs.Stands.{Stands}
 use Rattle.numbered_runs.specs.Steps.{settle}
 use Rattle.numbered_runs.proofs.Start.{run_begins}

@@ -5,8 +5,9 @@ use Rattle.cc_ops.specs.Machine.{Address}
 use Rattle.cc_core.specs.Asks.{Ask, Answer}
 use Rattle.cc_code.specs.Code.{Thread, Then, Move, move}
 use Rattle.code_thread.specs.Moves.{IsAsk, after}
-use Rattle.numbered_runs.specs.declared.number.ThreadNo.{ThreadNo}
-use Rattle.numbered_runs.specs.Machine.{Machine, Progress, Runner, changed, put_thread}
+use Rattle.cc_ops.specs.declared.number.ThreadNo.{ThreadNo}
+use Rattle.numbered_runs.specs.Machine.{Machine, Progress, Runner, put_thread}
+use Rattle.cc_ops.specs.Shelves.{changed}
 use Rattle.numbered_runs.specs.Steps.{settle, freed, joined}
 use Rattle.cc_walk.specs.Asking.{IsAsking}
 

@@ -5,7 +5,7 @@ use Rattle.cc_core.specs.Core.{Program}
 use Rattle.cc_core.specs.Config.{Config}
 use Rattle.cc_core.specs.Numbers.{Numbers, numbers_step}
 use Rattle.cc_core.specs.Steps as core
-use Rattle.numbered_runs.specs.declared.number.ThreadNo.{ThreadNo}
+use Rattle.cc_ops.specs.declared.number.ThreadNo.{ThreadNo}
 use Rattle.numbered_runs.specs.Alike.{IsLive}
 use Rattle.numbered_runs.specs.Machine.{Machine}
 use Rattle.numbered_runs.specs.Stands.{Stands, IsThread}

@@ -8,8 +8,9 @@ use Rattle.cc_core.specs.Core.{Shapes, Remote}
 use Rattle.cc_core.specs.Asks.{Ask}
 use Rattle.cc_core.specs.Next.{call_ask, spawn_ask}
 use Rattle.stack_code.specs.View.{code_of}
-use Rattle.numbered_runs.specs.Machine.{Machine, Shelf}
-use Rattle.numbered_runs.specs.Needs.{Verdict, Go, Bad}
+use Rattle.numbered_runs.specs.Machine.{Machine}
+use Rattle.cc_ops.specs.Shelves.{Shelf}
+use Rattle.cc_core.specs.Needs.{Verdict, Go, Bad}
 use Rattle.cc_walk.specs.Answered.{IsAnswered}
 use Rattle.cc_walk.specs.Views.{runner_of}
 use Rattle.cc_walk.specs.declared.answer.Asker.{Asker}

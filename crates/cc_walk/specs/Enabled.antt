@@ -7,7 +7,7 @@ use Rattle.cc_core.specs.Core.{Program}
 use Rattle.cc_core.specs.Config.{Config, Thread, Live, Ended}
 use Rattle.cc_core.specs.Numbers.{Numbers}
 use Rattle.cc_core.specs.Steps as core
-use Rattle.numbered_runs.specs.declared.number.ThreadNo.{ThreadNo}
+use Rattle.cc_ops.specs.declared.number.ThreadNo.{ThreadNo}
 use Rattle.numbered_runs.specs.Machine.{Machine}
 use Rattle.numbered_runs.specs.Stands.{IsThread}
 use Rattle.numbered_runs.specs.Steps.{Outcome, Gone, Waits, Faults, Moves, step}

@@ -10,7 +10,7 @@ use Rattle.cc_core.specs.Config.{Config, State}
 use Rattle.cc_core.specs.Core.{Program, Shapes, class_shape}
 use Rattle.cc_core.specs.Numbers as core
 use Rattle.cc_core.specs.Numbers.{Numbers, Post, Get, Put, Call, Cast, Make}
-use Rattle.numbered_runs.specs.declared.number.ThreadNo.{ThreadNo}
+use Rattle.cc_ops.specs.declared.number.ThreadNo.{ThreadNo}
 use Rattle.numbered_runs.specs.Stands.{thread_named}
 use Rattle.rsr_message.specs.declared.requests.Request.{Request}
 use Rattle.rsr_message.specs.declared.requests.Body.{Body}

@@ -1,6 +1,6 @@
 -- Whether an ask waits.
 use Rattle.std.specs.Prelude.{Bool, true, false}
-use Rattle.numbered_runs.specs.Needs.{Verdict, Go, Hold, Bad}
+use Rattle.cc_core.specs.Needs.{Verdict, Go, Hold, Bad}
 
 abbrev pub is_hold : Verdict → Bool
 is_hold (Go vs) = false

@@ -17,7 +17,7 @@ use cc_ops::int_of;
 use ccpp_edge::{Bytes, List};
 use code_thread::{Ask, Look};
 use global_ptr::Value;
-use numbered_runs::ThreadNo;
+use cc_ops::ThreadNo;
 use std::alloc::AllocError;
 
 /// The thread of `main`.

@@ -27,5 +27,5 @@ mod waits;
 mod walk;
 
 pub use news::{Awaited, News};
-pub use numbered_runs::ThreadNo;
+pub use cc_ops::ThreadNo;
 pub use walk::{Stepped, Walk};

@@ -1,6 +1,6 @@
 ghost use Rattle.std.specs.Prelude.{◌≡◌, ◌+◌, nat_le};
 ghost use Rattle.cc_core.specs.Needs.{most_slots};
-ghost use Rattle.numbered_runs.specs.Machine.{slots_in};
+ghost use Rattle.cc_ops.specs.Shelves.{slots_in};
 
 use walk_objects::Objects;
 

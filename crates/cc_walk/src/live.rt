@@ -8,7 +8,7 @@ use crate::effect::Entry;
 use ccpp_edge::List;
 use code_thread::{Look, Stack, Thread};
 use global_ptr::Value;
-use numbered_runs::ThreadNo;
+use cc_ops::ThreadNo;
 use stack_code::Code;
 use std::alloc::{AllocError, Global};
 

@@ -1,6 +1,7 @@
 ghost use Rattle.std.specs.Prelude.{◌≡◌, map, drop, IfOk, OnOk};
 ghost use Rattle.cc_ops.specs.Machine.{value_of, cell_of};
-ghost use Rattle.numbered_runs.specs.Effects.{cells_with, parameters, put_things, addresses};
+ghost use Rattle.cc_core.specs.Effects.{cells_with};
+ghost use Rattle.numbered_runs.specs.Effects.{parameters, put_things, addresses};
 
 use cc_ops::{Cell, Kind, value_at};
 use ccpp_edge::List;

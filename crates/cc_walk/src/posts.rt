@@ -24,7 +24,7 @@ use cc_core::How;
 use ccpp_edge::List;
 use code_thread::{Ask, Look};
 use global_ptr::{Addr, Spot, Value};
-use numbered_runs::ThreadNo;
+use cc_ops::ThreadNo;
 use rsr_message::{Body, Request};
 use stack_code::Code;
 use std::alloc::{AllocError, Global};

@@ -1,7 +1,7 @@
 ghost use Rattle.std.specs.Prelude.{◌≡◌, ◌++◌, map, OnOk};
 ghost use Rattle.cc_ops.specs.Machine.{value_of};
 ghost use Rattle.cc_core.specs.View.{part_of};
-ghost use Rattle.numbered_runs.specs.Effects.{printed};
+ghost use Rattle.cc_core.specs.Effects.{printed};
 
 use cc_core::PrintPart;
 use cc_ops::{int_of, value_at};

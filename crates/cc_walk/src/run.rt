@@ -8,8 +8,9 @@ ghost use Rattle.cc_code.specs.Code.{Then, move};
 ghost use Rattle.stack_code.specs.View.{code_of};
 ghost use Rattle.code_thread.specs.Moves.{after};
 ghost use Rattle.code_thread.specs.View.{answer_of};
-ghost use Rattle.numbered_runs.specs.Machine.{Machine, Shelf, Runner, Goes, thread_in, put_thread, ended_with};
-ghost use Rattle.numbered_runs.specs.Needs.{Values};
+ghost use Rattle.numbered_runs.specs.Machine.{Machine, Runner, Goes, thread_in, put_thread, ended_with};
+ghost use Rattle.cc_ops.specs.Shelves.{Shelf};
+ghost use Rattle.cc_ops.specs.Machine.{Values};
 ghost use Rattle.numbered_runs.specs.Stands.{Stands};
 ghost use Rattle.numbered_runs.specs.Steps.{step, settle, freed, apply, join, joined};
 ghost use Rattle.cc_walk.specs.Answered.{HasEffect};
@@ -26,7 +27,7 @@ use crate::stop::Stop;
 use crate::walk::{Stepped, Walk};
 use code_thread::{Look, Thread};
 use global_ptr::{ProgFault, Value};
-use numbered_runs::ThreadNo;
+use cc_ops::ThreadNo;
 use std::alloc::AllocError;
 
 impl Walk {

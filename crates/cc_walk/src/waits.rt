@@ -3,7 +3,7 @@ ghost use Rattle.cc_ops.specs.Machine.{value_of};
 ghost use Rattle.cc_core.specs.Core.{function_shape};
 ghost use Rattle.code_thread.specs.View.{ask_of};
 ghost use Rattle.numbered_runs.specs.Machine as machine;
-ghost use Rattle.numbered_runs.specs.Needs.{needs, check_all, has_ended, all_ended};
+ghost use Rattle.numbered_runs.specs.Looks.{needs, check_all, has_ended, all_ended};
 ghost use Rattle.walk_objects.specs.Reads.{reading};
 ghost use Rattle.cc_walk.specs.Asker.{machine_with, shapes_of};
 ghost use Rattle.cc_walk.specs.Verdicts.{is_hold};

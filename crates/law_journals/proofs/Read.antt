@@ -10,8 +10,8 @@ use Rattle.cc_core.specs.Config.{Config, State}
 use Rattle.cc_core.specs.Core.{Program}
 use Rattle.cc_core.specs.Numbers.{Numbers, Post, Get, Put, Call, Cast, Make, posts}
 use Rattle.code_names.specs.Same.{Pairwise}
-use Rattle.numbered_runs.specs.declared.number.ThreadNo.{ThreadNo}
-use Rattle.numbered_runs.specs.Machine.{home_in}
+use Rattle.cc_ops.specs.declared.number.ThreadNo.{ThreadNo}
+use Rattle.cc_ops.specs.Shelves.{home_in}
 use Rattle.numbered_runs.specs.Stands.{IsThread}
 use Rattle.effect_journal.specs.declared.entry.Entry.{Entry}
 use Rattle.effect_journal.specs.declared.entry.Entry.TheVariants as entry

@@ -8,7 +8,7 @@ use Rattle.cc_core.specs.Names.{Name}
 use Rattle.cc_core.specs.Source.{IsProgram}
 use Rattle.cc_core.specs.Numbers.{Numbers, first_numbers}
 use Rattle.cc_core.specs.Steps as core
-use Rattle.numbered_runs.specs.declared.number.ThreadNo.{ThreadNo}
+use Rattle.cc_ops.specs.declared.number.ThreadNo.{ThreadNo}
 use Rattle.numbered_runs.specs.Stands.{IsThread}
 use Rattle.effect_journal.specs.declared.entry.Entry.{Entry}
 use Rattle.effect_journal.specs.declared.entry.FaultBy.{FaultBy}

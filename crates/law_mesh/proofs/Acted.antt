@@ -12,10 +12,11 @@ use Rattle.cc_core.specs.Asks.{Ask, Answer}
 use Rattle.cc_core.specs.Asks.{Reads, Writes, Copies, Indexes, Shifts, Computes, Tests, Makes, MakesWith, Builds, Enters, Leaves}
 use Rattle.cc_core.specs.Asks.{ForksAll, ForksOne, Joins, Spawns, Prints, Calls, Casts, NewProcessor}
 use Rattle.cc_code.specs.Code.{Then}
-use Rattle.numbered_runs.specs.declared.number.ThreadNo.{ThreadNo}
-use Rattle.numbered_runs.specs.Machine.{Shelf, changed}
-use Rattle.numbered_runs.specs.Needs.{Values}
-use Rattle.numbered_runs.specs.Effects.{Effect, left_behind, more_shelves, branch_count, start_home, write_all, put_things, addresses, held_after, parameters}
+use Rattle.cc_ops.specs.declared.number.ThreadNo.{ThreadNo}
+use Rattle.cc_ops.specs.Shelves.{Shelf, changed}
+use Rattle.cc_ops.specs.Machine.{Values}
+use Rattle.numbered_runs.specs.Effects.{Effect, more_shelves, start_home, write_all, put_things, addresses, held_after, parameters}
+use Rattle.cc_core.specs.Effects.{left_behind, branch_count}
 use Rattle.numbered_runs.specs.Steps.{settle, freed, numbers_on}
 use Rattle.numbered_runs.proofs.Lists.{get_changed}
 use Rattle.law_mesh.specs.Spots.{Fiber, Spot, Active, Mesh, runs, put_item}

@@ -9,10 +9,12 @@ use Rattle.cc_core.specs.Asks.{Ask, Reads, Writes, Copies, Indexes, Shifts, Comp
 use Rattle.cc_core.specs.Asks.{ForksAll, ForksOne, Joins, Spawns, Prints, Calls, Casts, NewProcessor}
 use Rattle.cc_core.specs.Needs.{most_threads, most_slots}
 use Rattle.global_ptr.specs.declared.ends.FaultKind.TheVariants.{ThreadsFull, StoreFull}
-use Rattle.numbered_runs.specs.declared.number.ThreadNo.{ThreadNo}
-use Rattle.numbered_runs.specs.Machine.{Thing, Shelf, made_in, home_in, thing_in, slots_in}
-use Rattle.numbered_runs.specs.Needs.{Need, Filled, Unfilled, AllCells, Free, Threads, ThreadAt, Slots}
-use Rattle.numbered_runs.specs.Needs.{Go, Hold, needs, check, check_all, and_also, room, read, writable, all_in}
+use Rattle.cc_ops.specs.declared.number.ThreadNo.{ThreadNo}
+use Rattle.cc_ops.specs.Shelves.{Thing, Shelf, home_in, thing_in, slots_in}
+use Rattle.numbered_runs.specs.Machine.{made_in}
+use Rattle.cc_core.specs.Needs.{Need, Filled, Unfilled, AllCells, Free, Threads, ThreadAt, Slots}
+use Rattle.cc_core.specs.Needs.{Go, Hold, and_also, room, read, writable, all_in}
+use Rattle.numbered_runs.specs.Looks.{needs, check, check_all}
 use Rattle.law_mesh.specs.Spots.{Fiber, Spot, Mesh, shown, runs, counted, verdict, is_gone, spot_of, kid_gone, all_gone}
 use Rattle.law_mesh.specs.Local.{IsOn, KidsOn, AnsweredOn, LeadsTo}
 use Rattle.law_mesh.proofs.Lists.{same_counted}

@@ -8,10 +8,12 @@ use Rattle.cc_core.specs.Asks.{ForksAll, ForksOne, Joins, Spawns, Prints, Calls,
 use Rattle.cc_core.specs.Effects.{numbers}
 use Rattle.cc_code.specs.Code.{Code, Thread, Then}
 use Rattle.code_names.specs.Same.{Pairwise}
-use Rattle.numbered_runs.specs.declared.number.ThreadNo.{ThreadNo}
-use Rattle.numbered_runs.specs.Machine.{Machine, Shelf, Runner, Progress, Goes, Over, thread_in, put_thread, made_in, ended_with}
-use Rattle.numbered_runs.specs.Needs.{Values}
-use Rattle.numbered_runs.specs.Effects.{Effect, effect, branch_count, start_home, is_call, write_all, more_shelves, put_things, addresses, held_after}
+use Rattle.cc_ops.specs.declared.number.ThreadNo.{ThreadNo}
+use Rattle.numbered_runs.specs.Machine.{Machine, Runner, Progress, Goes, Over, thread_in, put_thread, made_in, ended_with}
+use Rattle.cc_ops.specs.Shelves.{Shelf}
+use Rattle.cc_ops.specs.Machine.{Values}
+use Rattle.numbered_runs.specs.Effects.{Effect, effect, start_home, write_all, more_shelves, put_things, addresses, held_after}
+use Rattle.cc_core.specs.Effects.{branch_count, is_call}
 use Rattle.numbered_runs.specs.Steps.{settle, freed, settle_all, more_tables, push_all, numbers_on, apply, itself}
 use Rattle.numbered_runs.proofs.Lists.{pairwise_append, pairwise_length, pairwise_kept}
 use Rattle.law_mesh.specs.Spots.{Fiber, Spot, Active, Parked, Posted, Delayed, Answered, Calling, Called, Gone, Mesh, shown, runs, item_in}

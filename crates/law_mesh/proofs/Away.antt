@@ -6,9 +6,9 @@ use Rattle.cc_core.specs.Asks.{Ask}
 use Rattle.cc_core.specs.Asks.{Reads, Writes}
 use Rattle.cc_core.specs.Asks.{Calls, Casts, NewProcessor}
 use Rattle.code_names.specs.Same.{Pairwise}
-use Rattle.numbered_runs.specs.declared.number.ThreadNo.{ThreadNo}
-use Rattle.numbered_runs.specs.Needs.{Values}
-use Rattle.numbered_runs.specs.Effects.{branch_count, is_call}
+use Rattle.cc_ops.specs.declared.number.ThreadNo.{ThreadNo}
+use Rattle.cc_ops.specs.Machine.{Values}
+use Rattle.cc_core.specs.Effects.{branch_count, is_call}
 use Rattle.numbered_runs.specs.Steps.{numbers_on}
 use Rattle.law_mesh.specs.Spots.{Fiber, Mesh, strangers}
 use Rattle.law_mesh.specs.Moves.{is_away, effect_of}

@@ -9,10 +9,13 @@ use Rattle.cc_core.specs.Effects.{numbers}
 use Rattle.cc_code.specs.Code.{Code, Then, Does, move}
 use Rattle.cc_code.specs.Settles.{Settles}
 use Rattle.code_names.specs.Same.{Pairwise}
-use Rattle.numbered_runs.specs.declared.number.ThreadNo.{ThreadNo}
+use Rattle.cc_ops.specs.declared.number.ThreadNo.{ThreadNo}
 use Rattle.numbered_runs.specs.Machine.{Runner, Progress, Goes, thread_in, put_thread, made_in, ended_with}
-use Rattle.numbered_runs.specs.Needs.{Values, Verdict, Go, Bad, needs, check_all}
-use Rattle.numbered_runs.specs.Effects.{Effect, is_call, start_home}
+use Rattle.cc_ops.specs.Machine.{Values}
+use Rattle.cc_core.specs.Needs.{Verdict, Go, Bad}
+use Rattle.numbered_runs.specs.Looks.{needs, check_all}
+use Rattle.numbered_runs.specs.Effects.{Effect, start_home}
+use Rattle.cc_core.specs.Effects.{is_call}
 use Rattle.numbered_runs.specs.Stands.{IsAsk}
 use Rattle.numbered_runs.specs.Steps.{settle, freed, step, act, act_progress, decide, join, joined, resumed, numbers_on, more_tables}
 use Rattle.numbered_runs.specs.Steps as numbered
@@ -23,7 +26,7 @@ use Rattle.law_mesh.specs.Moves.{more_lists, made_of, AsksFor, is_away, effect_o
 use Rattle.law_mesh.specs.Moves.{Moves, GoesSilently, Finishes, Acts, Parks, Rouses, Wakes, Holds, Sends, Serves, ServesCall, Delays, ResumesGet, Comes, Tells, Takes}
 use Rattle.law_mesh.specs.Moves.{FaultsAt, ActsBadly, ServedBadly, Step, own_step, served_step}
 use Rattle.cc_core.specs.Numbers.{Post}
-use Rattle.numbered_runs.specs.Needs.{is_some}
+use Rattle.std.specs.Prelude.{is_some}
 use Rattle.numbered_runs.specs.Posts.{posted, posts, move_posts}
 use Rattle.law_mesh.specs.Shows.{IsKid, GoesOn, StandsAt, Alike, Shows, IsShown, IsPosted}
 use Rattle.law_mesh.proofs.Apply.{apply_is, stepped_is, threads_alike, goes_on, next_alike, gone, after, itself_by, numbers_by, stay_over, all_still_alike}

@@ -8,8 +8,8 @@ use Rattle.std.proofs.lemmas.Bool.{false≢true}
 use Rattle.std.proofs.lemmas.Bool.Decides.{nat_tests}
 use Rattle.cc_ops.specs.Values.{Value}
 use Rattle.cc_ops.specs.Machine.{Address}
-use Rattle.numbered_runs.specs.Needs.{Values}
-use Rattle.numbered_runs.specs.declared.number.ThreadNo.{ThreadNo}
+use Rattle.cc_ops.specs.Machine.{Values}
+use Rattle.cc_ops.specs.declared.number.ThreadNo.{ThreadNo}
 use Rattle.law_mesh.specs.Spots.{Fiber, Cell, Lock, Branches, Spot, Active, Parked, Posted, Delayed, Answered, Calling, Called, Gone, item_in, put_item}
 use Rattle.law_mesh.specs.Rest.{IsStill}
 use Rattle.law_mesh.specs.Queues.{Queue, Hand, Ready, OfCell, OfLock, Inbox, Outbox, Makes, Message, Asks, Answers, Item, Itself, Mail, owner, same_thread, same_place, same_queue, Queues, of_thread, lies_in, IsBusy, GoesAt, AsksAt, AnswersAt, AsksBy, IsAnswered, CallsAway, GoesLater, MayLie, FitsAt, Hold, pulled, pushed, carried, AreIdle}

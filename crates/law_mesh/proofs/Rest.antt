@@ -9,9 +9,12 @@ use Rattle.cc_core.specs.Core.{function_shape}
 use Rattle.cc_ops.specs.Classes.{arity}
 use Rattle.cc_code.specs.Code.{Then, Does, move}
 use Rattle.code_names.specs.Same.{Pairwise}
-use Rattle.numbered_runs.specs.declared.number.ThreadNo.{ThreadNo}
-use Rattle.numbered_runs.specs.Machine.{Runner, Progress, Goes, Over, thread_in, ended_with, cell_in, is_held, going, all_going}
-use Rattle.numbered_runs.specs.Needs.{Verdict, Go, Hold, needs, check_all, and_also, read, Deeper, Slots, is_some, has_ended, all_ended}
+use Rattle.cc_ops.specs.declared.number.ThreadNo.{ThreadNo}
+use Rattle.numbered_runs.specs.Machine.{Runner, Progress, Goes, Over, thread_in, ended_with, going, all_going}
+use Rattle.cc_ops.specs.Shelves.{cell_in, is_held}
+use Rattle.cc_core.specs.Needs.{Verdict, Go, Hold, and_also, read, Deeper, Slots}
+use Rattle.numbered_runs.specs.Looks.{needs, check_all, has_ended, all_ended}
+use Rattle.std.specs.Prelude.{is_some}
 use Rattle.numbered_runs.specs.Steps.{act, join}
 use Rattle.numbered_runs.proofs.Lists.{pairwise_right}
 use Rattle.law_mesh.specs.Spots.{Fiber, Cell, Lock, Branches, Spot, Active, Parked, Delayed, Calling, Gone, Mesh, shown, runs, item_in, with_stranger}

@@ -18,7 +18,7 @@ use Rattle.numbered_runs.proofs.Follow.{steps_follow}
 use Rattle.numbered_runs.proofs.Posts.{posts_alike}
 use Rattle.numbered_runs.specs.Alike.{DoesAlike}
 use Rattle.numbered_runs.specs.Stands.{Stands, IsThread}
-use Rattle.numbered_runs.specs.declared.number.ThreadNo.{ThreadNo}
+use Rattle.cc_ops.specs.declared.number.ThreadNo.{ThreadNo}
 use Rattle.law_mesh.specs.Moves.{Moves, FaultsAt, Step}
 use Rattle.law_mesh.specs.Shows.{IsShown, IsPosted}
 use Rattle.law_mesh.specs.Source.{IsOfRun, GoesOnInRun}

@@ -9,10 +9,13 @@ use Rattle.cc_core.specs.Asks.{ForksAll, ForksOne, Joins, Spawns, Prints, Calls,
 use Rattle.cc_core.specs.Needs.{most_threads}
 use Rattle.global_ptr.specs.declared.ends.FaultKind.TheVariants.{ThreadsFull}
 use Rattle.code_names.specs.Same.{Pairwise}
-use Rattle.numbered_runs.specs.declared.number.ThreadNo.{ThreadNo}
-use Rattle.numbered_runs.specs.Machine.{Progress, made_in, thread_in, ended_with, home_in}
-use Rattle.numbered_runs.specs.Needs.{Need, Known, Filled, Unfilled, AllCells, Object, Free, Done, Deeper, Threads, ThreadAt, Slots, FirstSlots, Processor, Constructs}
-use Rattle.numbered_runs.specs.Needs.{Verdict, Go, Hold, Bad, needs, check, check_all, and_also, room, has_ended, all_ended, is_some}
+use Rattle.cc_ops.specs.declared.number.ThreadNo.{ThreadNo}
+use Rattle.numbered_runs.specs.Machine.{Progress, made_in, thread_in, ended_with}
+use Rattle.cc_ops.specs.Shelves.{home_in}
+use Rattle.cc_core.specs.Needs.{Need, Known, Filled, Unfilled, AllCells, Object, Free, Done, Deeper, Threads, ThreadAt, Slots, FirstSlots, Processor, Constructs}
+use Rattle.cc_core.specs.Needs.{Verdict, Go, Hold, Bad, and_also, room}
+use Rattle.numbered_runs.specs.Looks.{needs, check, check_all, has_ended, all_ended}
+use Rattle.std.specs.Prelude.{is_some}
 use Rattle.numbered_runs.proofs.Lists.{pairwise_right}
 use Rattle.law_mesh.specs.Spots.{Fiber, Spot, Gone, Mesh, item_in, shown, runs, counted, verdict, is_gone, spot_of, kid_gone, all_gone}
 use Rattle.law_mesh.specs.Shows.{IsKid, Alike, Shows}

@@ -10,10 +10,13 @@ use Rattle.cc_core.specs.Asks.{Ask, Answer}
 use Rattle.cc_core.specs.Asks.{Reads, Writes, Copies, Makes, MakesWith, Builds, Enters, Leaves}
 use Rattle.cc_core.specs.Asks.{ForksAll, ForksOne, Joins, Spawns, Calls, Casts, NewProcessor}
 use Rattle.cc_code.specs.Code.{Code, Thread, Then}
-use Rattle.numbered_runs.specs.declared.number.ThreadNo.{ThreadNo}
-use Rattle.numbered_runs.specs.Machine.{Thing, Shelf, Progress, Goes, Over, changed, home_in}
-use Rattle.numbered_runs.specs.Needs.{Values, at_address}
-use Rattle.numbered_runs.specs.Effects.{Effect, branch_count}
+use Rattle.cc_ops.specs.declared.number.ThreadNo.{ThreadNo}
+use Rattle.cc_ops.specs.Shelves.{Thing, Shelf, changed, home_in}
+use Rattle.numbered_runs.specs.Machine.{Progress, Goes, Over}
+use Rattle.cc_ops.specs.Machine.{Values}
+use Rattle.cc_core.specs.Needs.{at_object}
+use Rattle.numbered_runs.specs.Effects.{Effect}
+use Rattle.cc_core.specs.Effects.{branch_count}
 use Rattle.numbered_runs.specs.Steps.{settle, numbers_on}
 use Rattle.law_mesh.specs.Moves.{new_spots, known}
 use Rattle.law_mesh.specs.Spots.{Fiber, Spot, Active, runs}
@@ -45,7 +48,7 @@ with_written s o x v (Some c) = with_result s o x (written c v)
 
 -- after values are written, objects are made, and a function of an object is entered or left
 abbrev pub write_on : Shelf → Value Address → Value Address → Shelf
-write_on s a v = at_address a s (λ o x. with_written s o.object x v (cell_on s o.object x))
+write_on s a v = at_object a s (λ o x. with_written s o.object x v (cell_on s o.object x))
 
 abbrev pub write_all_on : Shelf → List (Value Address × Value Address) → Shelf
 write_all_on s [] = s
@@ -60,7 +63,7 @@ when true f s = f s
 when false f s = s
 
 abbrev pub note_on : Shapes → (f : ℕ) → Value Address → (held : Bool) → Shelf → Shelf
-note_on h f o held s = at_address o s (λ a x. when (function_shape h f).atomic (with_thing a.object (with_held held)) s)
+note_on h f o held s = at_object o s (λ a x. when (function_shape h f).atomic (with_thing a.object (with_held held)) s)
 
 abbrev pub leave_on : Shapes → List (ℕ × Value Address) → Shelf → Shelf
 leave_on h [] s = s

@@ -9,10 +9,13 @@ use Rattle.cc_core.specs.Asks.{Ask, Answer, Reads, Enters, Joins}
 use Rattle.cc_core.specs.Effects.{numbers}
 use Rattle.cc_core.specs.Numbers.{Post}
 use Rattle.cc_code.specs.Code.{Code, Thread, Then, Silent, Does, Ends, move}
-use Rattle.numbered_runs.specs.declared.number.ThreadNo.{ThreadNo}
-use Rattle.numbered_runs.specs.Machine.{Shelf, changed}
-use Rattle.numbered_runs.specs.Needs.{Values, Go, Bad, is_some}
-use Rattle.numbered_runs.specs.Effects.{Effect, effect, branch_count, start_home, is_call, write_all, more_shelves, put_things, addresses, held_after}
+use Rattle.cc_ops.specs.declared.number.ThreadNo.{ThreadNo}
+use Rattle.cc_ops.specs.Shelves.{Shelf, changed}
+use Rattle.cc_ops.specs.Machine.{Values}
+use Rattle.cc_core.specs.Needs.{Go, Bad}
+use Rattle.std.specs.Prelude.{is_some}
+use Rattle.numbered_runs.specs.Effects.{Effect, effect, start_home, write_all, more_shelves, put_things, addresses, held_after}
+use Rattle.cc_core.specs.Effects.{branch_count, is_call}
 use Rattle.numbered_runs.specs.Posts.{posted}
 use Rattle.numbered_runs.specs.Steps.{settle, freed, numbers_on}
 use Rattle.law_mesh.specs.Spots.{Fiber, Reason, Cell as ACell, Lock, Branches, Spot, Active, Parked, Posted, Delayed, Answered, Calling, Called, Gone}

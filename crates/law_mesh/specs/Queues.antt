@@ -6,10 +6,10 @@ use Rattle.cc_core.specs.Asks.{Ask, Answer, Writes, Casts, Enters}
 use Rattle.cc_core.specs.Core.{Shapes, function_shape}
 use Rattle.cc_core.specs.Numbers.{Post, Get, Put, Call, Cast, Make}
 use Rattle.cc_code.specs.Code.{Code, Then, Does, move}
-use Rattle.numbered_runs.specs.declared.number.ThreadNo.{ThreadNo}
-use Rattle.numbered_runs.specs.Machine.{home_in}
-use Rattle.numbered_runs.specs.Needs.{Values}
-use Rattle.numbered_runs.specs.Effects.{is_call}
+use Rattle.cc_ops.specs.declared.number.ThreadNo.{ThreadNo}
+use Rattle.cc_ops.specs.Shelves.{home_in}
+use Rattle.cc_ops.specs.Machine.{Values}
+use Rattle.cc_core.specs.Effects.{is_call}
 use Rattle.numbered_runs.specs.Posts.{move_posts}
 use Rattle.law_mesh.specs.Spots.{Fiber, Cell, Lock, Branches, Spot, Active, Parked, Posted, Delayed, Answered, Calling, Called, Gone, item_in}
 

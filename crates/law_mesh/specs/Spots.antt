@@ -5,9 +5,12 @@ use Rattle.cc_ops.specs.Values.{Value, Void}
 use Rattle.cc_ops.specs.Machine.{Address}
 use Rattle.cc_core.specs.Asks.{Ask, Joins, Casts}
 use Rattle.cc_code.specs.Code.{Code, Thread, Move, Silent, Does, Ends, Stuck, move}
-use Rattle.numbered_runs.specs.declared.number.ThreadNo.{ThreadNo}
-use Rattle.numbered_runs.specs.Machine.{Machine, Shelf, Runner, Progress, Over, changed}
-use Rattle.numbered_runs.specs.Needs.{Values, Verdict, Go, Hold, needs, check_all}
+use Rattle.cc_ops.specs.declared.number.ThreadNo.{ThreadNo}
+use Rattle.numbered_runs.specs.Machine.{Machine, Runner, Progress, Over}
+use Rattle.cc_ops.specs.Shelves.{Shelf, changed}
+use Rattle.cc_ops.specs.Machine.{Values}
+use Rattle.cc_core.specs.Needs.{Verdict, Go, Hold}
+use Rattle.numbered_runs.specs.Looks.{needs, check_all}
 
 -- A thread as its processor knows it: what it has left to do; the threads that it made, in order, of which one that was made by a request has no
 -- number here; and the functions that it is inside.

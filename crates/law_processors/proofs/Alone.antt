@@ -4,8 +4,9 @@ use Rattle.std.specs.Prelude.{slice_get}
 use Rattle.std.specs.Option.{option_and_then, option_map_or}
 use Rattle.cc_ops.specs.Values.{Ptr}
 use Rattle.cc_ops.specs.Machine.{Address}
-use Rattle.numbered_runs.specs.declared.number.ThreadNo.{ThreadNo}
-use Rattle.numbered_runs.specs.Machine.{Thing, Shelf, no_shelf, cell_in, cells_in, is_held, slots_in, made_in}
+use Rattle.cc_ops.specs.declared.number.ThreadNo.{ThreadNo}
+use Rattle.cc_ops.specs.Shelves.{Thing, Shelf, no_shelf, cell_in, cells_in, is_held, slots_in}
+use Rattle.numbered_runs.specs.Machine.{made_in}
 use Rattle.law_mesh.specs.Local.{cell_on}
 use Rattle.law_processors.specs.Orderly.{held_on}
 use Rattle.law_processors.specs.Processors.{Entry, Lives, Ended}

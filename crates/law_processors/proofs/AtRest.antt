@@ -17,8 +17,9 @@ use Rattle.cc_core.specs.Steps as core
 use Rattle.cc_code.specs.Code.{Code, Does, move}
 use Rattle.code_names.specs.Same.{Pairwise}
 use Rattle.numbered_runs.specs.Alike.{DoesAlike, main_thread}
-use Rattle.numbered_runs.specs.declared.number.ThreadNo.{ThreadNo}
-use Rattle.numbered_runs.specs.Machine.{Thing, Shelf, Progress, Goes as GoesAhead, Over, Machine, cell_in, is_held, thread_in, ended_with, all_going}
+use Rattle.cc_ops.specs.declared.number.ThreadNo.{ThreadNo}
+use Rattle.cc_ops.specs.Shelves.{Thing, Shelf, cell_in, is_held}
+use Rattle.numbered_runs.specs.Machine.{Progress, Goes as GoesAhead, Over, Machine, thread_in, ended_with, all_going}
 use Rattle.numbered_runs.specs.Stands.{IsThread, SameState}
 use Rattle.numbered_runs.proofs.Follow.{steps_follow}
 use Rattle.numbered_runs.proofs.Left.{left_alike}

@@ -6,8 +6,8 @@ use Rattle.std.proofs.lemmas.Option.{none-some, same_Some}
 use Rattle.std.proofs.lemmas.Bool.{false≢true}
 use Rattle.std.specs.Option.{option_and_then}
 use Rattle.code_names.specs.Same.{Pairwise}
-use Rattle.numbered_runs.specs.declared.number.ThreadNo.{ThreadNo}
-use Rattle.numbered_runs.specs.Machine.{Shelf, changed}
+use Rattle.cc_ops.specs.declared.number.ThreadNo.{ThreadNo}
+use Rattle.cc_ops.specs.Shelves.{Shelf, changed}
 use Rattle.numbered_runs.proofs.Lists.{then_found, get_changed, pairwise_push, pairwise_changed, pairwise_length, pairwise_right}
 use Rattle.law_mesh.specs.Spots.{Fiber, Spot, Active, Posted, Calling, Mesh, item_in, put_item}
 use Rattle.law_mesh.specs.Moves.{Moves, with_spot, push_item}

@@ -14,9 +14,11 @@ use Rattle.cc_core.specs.Asks.{Ask, Answer, Reads, Enters, Leaves}
 use Rattle.cc_core.specs.Asks as asks
 use Rattle.cc_core.specs.Numbers.{Post, Get, Put, Call, Cast, Make}
 use Rattle.cc_code.specs.Code.{Code, Thread, Then, Move, Silent, Does, Ends, Stuck, move}
-use Rattle.numbered_runs.specs.declared.number.ThreadNo.{ThreadNo}
-use Rattle.numbered_runs.specs.Machine.{Thing, Shelf, Progress, Goes as GoesAhead, Over, no_shelf, changed, cell_in}
-use Rattle.numbered_runs.specs.Needs.{Values, Verdict, Go, Hold, Bad, and_also, read}
+use Rattle.cc_ops.specs.declared.number.ThreadNo.{ThreadNo}
+use Rattle.cc_ops.specs.Shelves.{Thing, Shelf, no_shelf, changed, cell_in}
+use Rattle.numbered_runs.specs.Machine.{Progress, Goes as GoesAhead, Over}
+use Rattle.cc_ops.specs.Machine.{Values}
+use Rattle.cc_core.specs.Needs.{Verdict, Go, Hold, Bad, and_also, read}
 use Rattle.numbered_runs.specs.Posts.{posted}
 use Rattle.numbered_runs.proofs.Lists.{get_unchanged}
 use Rattle.law_mesh.specs.Local.{cell_on, with_cell, with_held, with_thing, with_new, with_result, with_written, write_on, write_all_on, put_all_on, when, note_on, leave_on, leave_all_on, held_after_on, freed_on, place_after, new_here}

@@ -9,10 +9,11 @@ use Rattle.cc_core.specs.Asks.{Ask, Answer, Reads, Enters}
 use Rattle.cc_core.specs.Asks as asks
 use Rattle.cc_core.specs.Numbers.{Post}
 use Rattle.cc_code.specs.Code.{Code, Thread, Then, Move, Silent, Does, move}
-use Rattle.numbered_runs.specs.declared.number.ThreadNo.{ThreadNo}
-use Rattle.numbered_runs.specs.Machine.{Shelf, Progress, Over, put_held}
+use Rattle.cc_ops.specs.declared.number.ThreadNo.{ThreadNo}
+use Rattle.cc_ops.specs.Shelves.{Shelf, put_held}
+use Rattle.numbered_runs.specs.Machine.{Progress, Over}
 use Rattle.numbered_runs.specs.Machine as numbered
-use Rattle.numbered_runs.specs.Needs.{is_some}
+use Rattle.std.specs.Prelude.{is_some}
 use Rattle.numbered_runs.specs.Effects.{leave_all, note_held}
 use Rattle.numbered_runs.specs.Posts.{posted, move_posts}
 use Rattle.numbered_runs.specs.Steps.{freed, settle}

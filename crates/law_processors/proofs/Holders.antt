@@ -14,9 +14,11 @@ use Rattle.cc_core.specs.Asks.{Ask, Answer, Reads, Enters, Leaves}
 use Rattle.cc_core.specs.Asks as asks
 use Rattle.cc_core.specs.Numbers.{Post, Get, Put, Call, Cast, Make}
 use Rattle.cc_code.specs.Code.{Code, Then, Move, Silent, Does, Ends, Stuck, Starting, move}
-use Rattle.numbered_runs.specs.declared.number.ThreadNo.{ThreadNo}
-use Rattle.numbered_runs.specs.Machine.{Thing, Shelf, no_shelf, is_held}
-use Rattle.numbered_runs.specs.Needs.{Values, Verdict, Go, Hold, Bad, and_also, is_some}
+use Rattle.cc_ops.specs.declared.number.ThreadNo.{ThreadNo}
+use Rattle.cc_ops.specs.Shelves.{Thing, Shelf, no_shelf, is_held}
+use Rattle.cc_ops.specs.Machine.{Values}
+use Rattle.cc_core.specs.Needs.{Verdict, Go, Hold, Bad, and_also}
+use Rattle.std.specs.Prelude.{is_some}
 use Rattle.numbered_runs.specs.Effects.{Effect}
 use Rattle.numbered_runs.specs.Posts.{posted}
 use Rattle.numbered_runs.specs.Steps.{settle}

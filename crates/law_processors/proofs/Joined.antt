@@ -14,10 +14,11 @@ use Rattle.cc_core.specs.Asks.{Ask, Answer, Reads, Enters, Leaves}
 use Rattle.cc_core.specs.Asks as asks
 use Rattle.cc_core.specs.Numbers.{Post, Get, Put, Call, Cast, Make}
 use Rattle.cc_code.specs.Code.{Code, Thread, Then, Move, Silent, Does, Ends, Stuck, move}
-use Rattle.numbered_runs.specs.declared.number.ThreadNo.{ThreadNo}
-use Rattle.numbered_runs.specs.Machine.{changed}
-use Rattle.numbered_runs.specs.Needs.{Values, Verdict, Go, Hold, Bad}
-use Rattle.numbered_runs.specs.Effects.{is_call}
+use Rattle.cc_ops.specs.declared.number.ThreadNo.{ThreadNo}
+use Rattle.cc_ops.specs.Shelves.{changed}
+use Rattle.cc_ops.specs.Machine.{Values}
+use Rattle.cc_core.specs.Needs.{Verdict, Go, Hold, Bad}
+use Rattle.cc_core.specs.Effects.{is_call}
 use Rattle.numbered_runs.specs.Posts.{posted}
 use Rattle.numbered_runs.proofs.Lists.{get_changed, get_unchanged, length_changed}
 use Rattle.law_mesh.specs.Local.{write_on, place_after, new_here}

@@ -12,10 +12,12 @@ use Rattle.cc_core.specs.Asks.{Ask, Answer, Reads, Writes, Copies, Indexes, Shif
 use Rattle.cc_core.specs.Asks.{ForksAll, ForksOne, Joins, Spawns, Prints, Calls, Casts, NewProcessor}
 use Rattle.cc_code.specs.Code.{Code, Thread, Then, Does, move}
 use Rattle.code_names.specs.Same.{Pairwise}
-use Rattle.numbered_runs.specs.declared.number.ThreadNo.{ThreadNo}
-use Rattle.numbered_runs.specs.Machine.{Shelf, changed}
-use Rattle.numbered_runs.specs.Needs.{Values, Go}
-use Rattle.numbered_runs.specs.Effects.{Effect, effect, branch_count, is_call}
+use Rattle.cc_ops.specs.declared.number.ThreadNo.{ThreadNo}
+use Rattle.cc_ops.specs.Shelves.{Shelf, changed}
+use Rattle.cc_ops.specs.Machine.{Values}
+use Rattle.cc_core.specs.Needs.{Go}
+use Rattle.numbered_runs.specs.Effects.{Effect, effect}
+use Rattle.cc_core.specs.Effects.{branch_count, is_call}
 use Rattle.numbered_runs.specs.Steps.{settle, numbers_on}
 use Rattle.numbered_runs.proofs.Lists.{get_in_front, pairwise_length}
 use Rattle.law_mesh.specs.Spots.{Fiber, Cell, Lock, Branches, Spot, Active, Parked, Posted, Delayed, Answered, Calling, Called, Gone, Mesh, item_in, put_item, shown, runs, verdict}

@@ -11,10 +11,10 @@ use Rattle.cc_core.specs.Asks.{NewProcessor}
 use Rattle.cc_core.specs.Core.{Program, class_shape}
 use Rattle.cc_core.specs.Numbers.{Post, Get, Put, Call, Cast, Make}
 use Rattle.cc_code.specs.Code.{Code}
-use Rattle.numbered_runs.specs.declared.number.ThreadNo.{ThreadNo}
-use Rattle.numbered_runs.specs.Effects.{constructed}
-use Rattle.numbered_runs.specs.Machine.{changed}
-use Rattle.numbered_runs.specs.Needs.{Verdict, Go, Hold, Bad}
+use Rattle.cc_ops.specs.declared.number.ThreadNo.{ThreadNo}
+use Rattle.cc_core.specs.Effects.{constructed}
+use Rattle.cc_ops.specs.Shelves.{changed}
+use Rattle.cc_core.specs.Needs.{Verdict, Go, Hold, Bad}
 use Rattle.law_mesh.specs.Spots.{Fiber, Lock, Active, Parked, Called, Mesh, item_in, verdict}
 use Rattle.law_mesh.specs.Queues.{Queue, Hand, OfCell, OfLock, Ready, Inbox, Message, Asks, Answers, Item, Itself, Mail, AsksAt}
 use Rattle.law_processors.specs.Processors.{Waiter, Asked, Goes, Joins, Asking, Has, Entry, Lives, Ended, Locked, Processor, Processors, IsEntry, lists, lock_items, waiter_item, Runs, with_processor}

@@ -9,8 +9,8 @@ use Rattle.cc_ops.specs.Values.{Value}
 use Rattle.cc_ops.specs.Machine.{Address}
 use Rattle.cc_code.specs.Code.{Code, Ends, move}
 use Rattle.code_names.specs.Same.{Pairwise}
-use Rattle.numbered_runs.specs.declared.number.ThreadNo.{ThreadNo}
-use Rattle.numbered_runs.specs.Machine.{changed}
+use Rattle.cc_ops.specs.declared.number.ThreadNo.{ThreadNo}
+use Rattle.cc_ops.specs.Shelves.{changed}
 use Rattle.law_mesh.specs.Spots.{Fiber, Cell, Lock, Branches, Spot, Active, Parked, Posted, Delayed, Answered, Calling, Called, Gone, Mesh, item_in, put_item}
 use Rattle.law_mesh.specs.Moves.{Moves, Finishes, Rouses, Tells, with_spot}
 use Rattle.law_processors.specs.Living.{one_lives, joins_of}

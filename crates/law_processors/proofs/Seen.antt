@@ -10,9 +10,11 @@ use Rattle.cc_core.specs.Asks.{ForksAll, ForksOne, Joins, Spawns, Prints, Calls,
 use Rattle.cc_core.specs.Numbers.{Post, Get, Put, Call, Cast, Make}
 use Rattle.cc_code.specs.Code.{Code}
 use Rattle.code_names.specs.Same.{Pairwise}
-use Rattle.numbered_runs.specs.declared.number.ThreadNo.{ThreadNo}
-use Rattle.numbered_runs.specs.Machine.{Shelf, Progress, no_shelf}
-use Rattle.numbered_runs.specs.Needs.{Go, Hold, needs, check_all}
+use Rattle.cc_ops.specs.declared.number.ThreadNo.{ThreadNo}
+use Rattle.cc_ops.specs.Shelves.{Shelf, no_shelf}
+use Rattle.numbered_runs.specs.Machine.{Progress}
+use Rattle.cc_core.specs.Needs.{Go, Hold}
+use Rattle.numbered_runs.specs.Looks.{needs, check_all}
 use Rattle.numbered_runs.proofs.Lists.{get_changed, pairwise_right}
 use Rattle.law_mesh.specs.Spots.{Fiber, Spot, Active, Parked, Posted, Delayed, Answered, Calling, Called, Gone, Mesh, shown, runs, counted, some_progress, verdict, is_gone, kid_gone, all_gone}
 use Rattle.law_mesh.specs.Local.{IsOn, KidsOn, KidOn, AnsweredOn, AreOn}

@@ -7,7 +7,7 @@ use Rattle.cc_core.specs.Core.{Program}
 use Rattle.cc_core.specs.Numbers.{Post, Numbers}
 use Rattle.cc_core.specs.Source.{IsProgram}
 use Rattle.cc_core.specs.Steps as core
-use Rattle.numbered_runs.specs.declared.number.ThreadNo.{ThreadNo}
+use Rattle.cc_ops.specs.declared.number.ThreadNo.{ThreadNo}
 use Rattle.law_mesh.specs.Queues.{Message}
 use Rattle.law_processors.specs.Processors.{Waiter, Own, Asked, Processor, Processors, tables_of}
 use Rattle.law_processors.specs.Alone.{Did, Went, Failed, served, serves}

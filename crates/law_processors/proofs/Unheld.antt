@@ -12,7 +12,7 @@ use Rattle.cc_core.specs.Core.{Program, function, shapes}
 use Rattle.cc_core.specs.Needs.{any_holds}
 use Rattle.cc_core.specs.Source.{IsProgram}
 use Rattle.cc_core.specs.Steps as core
-use Rattle.numbered_runs.specs.Machine.{Thing, Shelf}
+use Rattle.cc_ops.specs.Shelves.{Thing, Shelf}
 use Rattle.numbered_runs.specs.Stands.{IsShelf, IsThingAt}
 use Rattle.numbered_runs.proofs.Lists.{pairwise_left}
 use Rattle.core_types.specs.Types.{Types}

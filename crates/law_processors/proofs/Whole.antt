@@ -20,10 +20,11 @@ use Rattle.cc_core.specs.Source.{IsProgram}
 use Rattle.cc_core.specs.Steps as core
 use Rattle.cc_code.specs.Layout.{layout}
 use Rattle.numbered_runs.specs.Alike.{ints}
-use Rattle.numbered_runs.specs.declared.number.ThreadNo.{ThreadNo}
-use Rattle.numbered_runs.specs.Effects.{parameters, cells_with, put_things}
-use Rattle.numbered_runs.specs.Machine.{Shelf, no_shelf}
-use Rattle.numbered_runs.specs.Needs.{Values}
+use Rattle.cc_ops.specs.declared.number.ThreadNo.{ThreadNo}
+use Rattle.numbered_runs.specs.Effects.{parameters, put_things}
+use Rattle.cc_core.specs.Effects.{cells_with}
+use Rattle.cc_ops.specs.Shelves.{Shelf, no_shelf}
+use Rattle.cc_ops.specs.Machine.{Values}
 use Rattle.numbered_runs.specs.Stands.{IsThread}
 use Rattle.law_mesh.specs.Begins.{first_fiber, first_mesh}
 use Rattle.law_mesh.specs.Local.{put_all_on, with_new}

@@ -11,10 +11,11 @@ use Rattle.cc_ops.specs.Machine.{Address}
 use Rattle.cc_core.specs.Asks.{Ask, Answer, Calls, Casts}
 use Rattle.cc_core.specs.Numbers.{Post, Get, Put, Call, Cast, Make}
 use Rattle.cc_code.specs.Code.{Code, Then, Move, Silent, Does, Ends, Stuck, move}
-use Rattle.numbered_runs.specs.declared.number.ThreadNo.{ThreadNo}
-use Rattle.numbered_runs.specs.Machine.{home_in}
+use Rattle.cc_ops.specs.declared.number.ThreadNo.{ThreadNo}
+use Rattle.cc_ops.specs.Shelves.{home_in}
 use Rattle.law_mesh.specs.Local.{AnsweredOn}
-use Rattle.numbered_runs.specs.Needs.{Values, Verdict, Go, Hold, Bad}
+use Rattle.cc_ops.specs.Machine.{Values}
+use Rattle.cc_core.specs.Needs.{Verdict, Go, Hold, Bad}
 use Rattle.numbered_runs.specs.Posts.{posted}
 use Rattle.law_mesh.specs.Spots.{Fiber, Spot, Active, Posted, Answered, Called, Mesh, item_in, put_item, verdict, answered}
 use Rattle.law_mesh.specs.Moves.{Comes, Asking as AskingAt, FaultsAt, ActsBadly, ServedBadly, with_spot, with_spots}

@@ -12,11 +12,15 @@ use Rattle.cc_core.specs.Asks.{ForksAll, ForksOne, Spawns, Calls, Casts, NewProc
 use Rattle.cc_core.specs.Asks as asks
 use Rattle.cc_core.specs.Numbers.{Post, Get, Put, Call, Cast, Make}
 use Rattle.cc_code.specs.Code.{Code, Thread, Then, Move, Silent, Does, Ends, Stuck, Finished, Starting, move}
-use Rattle.numbered_runs.specs.declared.number.ThreadNo.{ThreadNo}
-use Rattle.numbered_runs.specs.Machine.{Thing, Shelf, no_shelf, changed, Over}
+use Rattle.cc_ops.specs.declared.number.ThreadNo.{ThreadNo}
+use Rattle.cc_ops.specs.Shelves.{Thing, Shelf, no_shelf, changed}
+use Rattle.numbered_runs.specs.Machine.{Over}
 use Rattle.numbered_runs.specs.Machine as numbered
-use Rattle.numbered_runs.specs.Needs.{Values, Verdict, Go, Hold, Bad, is_some}
-use Rattle.numbered_runs.specs.Effects.{Effect, is_call}
+use Rattle.cc_ops.specs.Machine.{Values}
+use Rattle.cc_core.specs.Needs.{Verdict, Go, Hold, Bad}
+use Rattle.std.specs.Prelude.{is_some}
+use Rattle.numbered_runs.specs.Effects.{Effect}
+use Rattle.cc_core.specs.Effects.{is_call}
 use Rattle.numbered_runs.specs.Posts.{posted}
 use Rattle.numbered_runs.specs.Steps.{settle}
 use Rattle.law_mesh.specs.Spots.{Fiber, Spot, Active, Gone, Mesh, runs, verdict, answered}

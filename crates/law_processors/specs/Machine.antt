@@ -9,10 +9,10 @@ use Rattle.cc_core.specs.Core.{class_shape}
 use Rattle.cc_core.specs.Asks.{NewProcessor}
 use Rattle.cc_core.specs.Numbers.{Post, Make}
 use Rattle.cc_code.specs.Code.{Move, Silent, Does, Ends, Stuck, move}
-use Rattle.numbered_runs.specs.declared.number.ThreadNo.{ThreadNo}
-use Rattle.numbered_runs.specs.Machine.{no_shelf, changed}
-use Rattle.numbered_runs.specs.Needs.{Verdict, Go, Hold, Bad}
-use Rattle.numbered_runs.specs.Effects.{constructed}
+use Rattle.cc_ops.specs.declared.number.ThreadNo.{ThreadNo}
+use Rattle.cc_ops.specs.Shelves.{no_shelf, changed}
+use Rattle.cc_core.specs.Needs.{Verdict, Go, Hold, Bad}
+use Rattle.cc_core.specs.Effects.{constructed}
 use Rattle.law_mesh.specs.Spots.{Mesh, verdict, item_in}
 use Rattle.law_mesh.specs.Local.{with_new}
 use Rattle.law_mesh.specs.Queues.{Message, Asks, Answers, target}

@@ -9,7 +9,7 @@ use Rattle.cc_core.specs.Steps as core
 use Rattle.cc_code.specs.Layout.{layout}
 use Rattle.numbered_runs.specs.Alike.{ints}
 use Rattle.numbered_runs.specs.Effects.{parameters}
-use Rattle.numbered_runs.specs.Machine.{no_shelf}
+use Rattle.cc_ops.specs.Shelves.{no_shelf}
 use Rattle.law_mesh.specs.Begins.{first_fiber}
 use Rattle.law_mesh.specs.Local.{put_all_on}
 use Rattle.law_processors.specs.Processors.{Own, Goes, Lives, Processor, Processors, Runs}

@@ -5,8 +5,8 @@ use Rattle.cc_ops.specs.Machine.{Address}
 use Rattle.cc_core.specs.Core.{Shapes}
 use Rattle.cc_core.specs.Asks.{Ask, Answer, Leaves}
 use Rattle.cc_code.specs.Code.{Code, Thread, Then}
-use Rattle.numbered_runs.specs.declared.number.ThreadNo.{ThreadNo}
-use Rattle.numbered_runs.specs.Needs.{Values}
+use Rattle.cc_ops.specs.declared.number.ThreadNo.{ThreadNo}
+use Rattle.cc_ops.specs.Machine.{Values}
 use Rattle.law_mesh.specs.Local.{place_after, new_here}
 use Rattle.law_mesh.specs.Spots.{Fiber}
 use Rattle.law_mesh.specs.Queues.{Message, holds}

@@ -15,9 +15,10 @@ use Rattle.cc_core.specs.Names.{Name}
 use Rattle.cc_core.specs.Numbers.{Post, Get, Put, Call, Cast, Make, Numbers, first_numbers}
 use Rattle.cc_core.specs.Source.{IsProgram}
 use Rattle.cc_core.specs.Steps as core
-use Rattle.numbered_runs.specs.declared.number.ThreadNo.{ThreadNo}
+use Rattle.cc_ops.specs.declared.number.ThreadNo.{ThreadNo}
 use Rattle.numbered_runs.proofs.Lists.{get_changed}
-use Rattle.numbered_runs.specs.Needs.{Values, Verdict, Go, Hold, Bad, and_also, of_result}
+use Rattle.cc_ops.specs.Machine.{Values}
+use Rattle.cc_core.specs.Needs.{Verdict, Go, Hold, Bad, and_also, of_result}
 use Rattle.law_mesh.specs.Spots.{Mesh, verdict}
 use Rattle.law_mesh.specs.Queues.{OfCell, Makes, Message, Asks, Answers, Mail, target}
 use Rattle.law_processors.specs.Processors.{Processor, Processors, Runs, lists, printing, with_processor}

@@ -11,8 +11,9 @@ use Rattle.cc_core.specs.Asks.{Ask, Answer, Reads, Enters, Leaves}
 use Rattle.cc_core.specs.Asks as asks
 use Rattle.cc_core.specs.Numbers.{Post, Get, Put, Call, Cast, Make}
 use Rattle.cc_code.specs.Code.{Code, Thread, Then, Move, Silent, Does, Ends, Stuck, move}
-use Rattle.numbered_runs.specs.declared.number.ThreadNo.{ThreadNo}
-use Rattle.numbered_runs.specs.Needs.{Values, Verdict, Go, Hold, Bad}
+use Rattle.cc_ops.specs.declared.number.ThreadNo.{ThreadNo}
+use Rattle.cc_ops.specs.Machine.{Values}
+use Rattle.cc_core.specs.Needs.{Verdict, Go, Hold, Bad}
 use Rattle.numbered_runs.specs.Posts.{posted}
 use Rattle.law_mesh.specs.Local.{write_on, place_after, new_here}
 use Rattle.law_processors.specs.Living.{one_lives, joins_of}
@@ -23,7 +24,7 @@ use Rattle.law_processors.specs.Alone.{OwnStep, Did, Went, Failed, be_ready, ser
 use Rattle.law_processors.specs.Machine.{without_ready, Run}
 use Rattle.law_rounds.specs.Turn.{Note, begin, TurnIs, TurnRuns, EndsSo, TurnEnd, Quota, Idle, Fault, Phase, Serving, Picking, Running, Leaving, Closed, Turning, Pick, pick, at_phase, end_of, closes}
 use Rattle.law_rounds.specs.Turn.{after_serving, serves_on, takes, with_state, picks, stays, after_move, runs_on, ends_soon, ended_or_not, after_end, put_back, leaves, tick_in, tick, ticks}
-use Rattle.numbered_runs.specs.Machine.{changed}
+use Rattle.cc_ops.specs.Shelves.{changed}
 use Rattle.law_mesh.proofs.Local.{changed_alike, changed_same}
 use Rattle.law_processors.proofs.Base.{append_none}
 use Rattle.law_rounds.proofs.Kept.{Same, wake_same, stepped_same}

@@ -13,10 +13,10 @@ use Rattle.cc_ops.specs.Machine.{Address, same_address}
 use Rattle.cc_core.specs.Core.{class_shape}
 use Rattle.cc_core.specs.Asks.{NewProcessor}
 use Rattle.cc_core.specs.Numbers.{Get, Put, Call, Cast, Make}
-use Rattle.numbered_runs.specs.declared.number.ThreadNo.{ThreadNo}
-use Rattle.numbered_runs.specs.Effects.{constructed}
-use Rattle.numbered_runs.specs.Machine.{changed}
-use Rattle.numbered_runs.specs.Needs.{Verdict, Go, Hold, Bad}
+use Rattle.cc_ops.specs.declared.number.ThreadNo.{ThreadNo}
+use Rattle.cc_core.specs.Effects.{constructed}
+use Rattle.cc_ops.specs.Shelves.{changed}
+use Rattle.cc_core.specs.Needs.{Verdict, Go, Hold, Bad}
 use Rattle.law_mesh.specs.Spots.{verdict}
 use Rattle.law_mesh.specs.Queues.{Message, Asks, Answers}
 use Rattle.law_processors.specs.Processors.{Processor, Processors, with_processor, printing}

@@ -6,7 +6,7 @@ use Rattle.cc_core.specs.Core.{Function, Program, Stmt, Stmts, NoStmts, MoreStmt
 use Rattle.cc_core.specs.Core.{Drop, Call, Remote, Load, Variable}
 use Rattle.cc_core.specs.Numbers.{Make}
 use Rattle.cc_core.specs.Numbers as posts
-use Rattle.numbered_runs.specs.declared.number.ThreadNo.{ThreadNo}
+use Rattle.cc_ops.specs.declared.number.ThreadNo.{ThreadNo}
 use Rattle.law_mesh.specs.Queues.{Asks}
 use Rattle.law_rounds.specs.Turn.{Note, Ran, Served, Made}
 

@@ -15,7 +15,7 @@ use Rattle.cc_core.specs.Numbers.{Numbers, first_numbers}
 use Rattle.cc_core.specs.Steps as core
 use Rattle.cc_core.specs.Steps.{RunsTo}
 use Rattle.numbered_runs.specs.Alike.{main_thread}
-use Rattle.numbered_runs.specs.declared.number.ThreadNo.{ThreadNo}
+use Rattle.cc_ops.specs.declared.number.ThreadNo.{ThreadNo}
 use Rattle.numbered_runs.specs.Stands.{IsThread}
 use Rattle.law_mesh.specs.Source.{Leads}
 use Rattle.law_mesh.specs.Spots.{item_in}

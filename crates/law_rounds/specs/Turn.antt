@@ -4,7 +4,7 @@ use Rattle.std.specs.Prelude.{◌≡◌, ◌≤◌, ℕ, zero, suc, ◌+◌, ◌
 use Rattle.global_ptr.specs.declared.ends.FaultKind.{FaultKind}
 use Rattle.rand_xoshiro.specs.SplitMix64.{mix_u64}
 use Rattle.cc_code.specs.Code.{Code}
-use Rattle.numbered_runs.specs.declared.number.ThreadNo.{ThreadNo}
+use Rattle.cc_ops.specs.declared.number.ThreadNo.{ThreadNo}
 use Rattle.numbered_runs.specs.Machine.{Over}
 use Rattle.numbered_runs.specs.Machine as numbered
 use Rattle.numbered_runs.specs.Steps.{settle}

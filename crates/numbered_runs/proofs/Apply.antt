@@ -35,11 +35,15 @@ use Rattle.run_numbers.proofs.Processors.{one_number, processors_are_counted}
 use Rattle.one_holder.specs.Holders.{HasOneHolder, IsInsideOnce}
 use Rattle.one_holder.proofs.Law.{one_holder, once}
 use Rattle.one_holder.proofs.Moves.{inside_after}
-use Rattle.numbered_runs.specs.declared.number.ThreadNo.{ThreadNo}
-use Rattle.numbered_runs.specs.Machine.{Machine, Shelf, Runner, made_in}
+use Rattle.cc_ops.specs.declared.number.ThreadNo.{ThreadNo}
+use Rattle.numbered_runs.specs.Machine.{Machine, Runner, made_in}
+use Rattle.cc_ops.specs.Shelves.{Shelf}
 use Rattle.numbered_runs.specs.Needs as machine
-use Rattle.numbered_runs.specs.Needs.{Values, Go, check_all}
-use Rattle.numbered_runs.specs.Effects.{Effect, is_call, branch_count, held_after, put_things}
+use Rattle.cc_ops.specs.Machine.{Values}
+use Rattle.cc_core.specs.Needs.{Go}
+use Rattle.numbered_runs.specs.Looks.{check_all}
+use Rattle.numbered_runs.specs.Effects.{Effect, held_after, put_things}
+use Rattle.cc_core.specs.Effects.{is_call, branch_count}
 use Rattle.numbered_runs.specs.Stands.{Stands, IsThread, is_object, Alike, SameLive, SameState, IsThreadAt}
 use Rattle.numbered_runs.specs.Steps.{its_effect, ground, its_answer, follows, its_new, new_home, tables, new_numbers, itself, apply, numbers_on}
 use Rattle.numbered_runs.proofs.Asks.{CallsWithin, SameEffect, effect_alike}

@@ -27,10 +27,11 @@ use Rattle.numbered_threads.proofs.Numbered.{started_stands}
 use Rattle.run_numbers.proofs.Numbers.{reached}
 use Rattle.cc_core.proofs.NameLaws.{told_same, told_itself}
 use Rattle.run_numbers.proofs.Processors.{object_founds}
-use Rattle.numbered_runs.specs.declared.number.ThreadNo.{ThreadNo}
+use Rattle.cc_ops.specs.declared.number.ThreadNo.{ThreadNo}
 use Rattle.numbered_runs.specs.Machine.{Machine, Runner}
-use Rattle.numbered_runs.specs.Needs.{Values}
-use Rattle.numbered_runs.specs.Effects.{Effect, effect, nothing, object, start, cells_with, parameters, constructed, printed, left_behind}
+use Rattle.cc_ops.specs.Machine.{Values}
+use Rattle.numbered_runs.specs.Effects.{Effect, effect, nothing, object, start, parameters}
+use Rattle.cc_core.specs.Effects.{cells_with, constructed, printed, left_behind}
 use Rattle.numbered_runs.specs.Stands.{Stands, IsThread, is_object, Alike, SameCell, SameInside}
 use Rattle.numbered_runs.proofs.Lists.{get_in_front, get_last, pairwise_length}
 use Rattle.numbered_runs.proofs.Naming.{same_objects, home}

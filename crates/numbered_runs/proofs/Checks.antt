@@ -26,10 +26,13 @@ use Rattle.code_names.specs.Same.{Pairwise, Told, SameValues, SameAsk}
 use Rattle.code_names.proofs.Values.{int_same}
 use Rattle.run_numbers.proofs.Numbers.{reached}
 use Rattle.run_numbers.proofs.Counts.{threads_are_counted}
-use Rattle.numbered_runs.specs.declared.number.ThreadNo.{ThreadNo}
-use Rattle.numbered_runs.specs.Machine.{Machine, Thing, Runner, Progress, Goes, Over, cell_in, cells_in, is_held, slots_in, home_in, thread_in, made_in, ended_with}
-use Rattle.numbered_runs.specs.Needs.{Need, Known, Filled, Unfilled, AllCells, Object, Free, Done, Deeper, Threads, ThreadAt, Slots, FirstSlots, Processor, Constructs}
-use Rattle.numbered_runs.specs.Needs.{Verdict, Go, Hold, Bad, one, needs, of_result, at_address, read, writable, value_in, all_in, object_there, room, is_some, has_ended, all_ended, check, and_also, check_all}
+use Rattle.cc_ops.specs.declared.number.ThreadNo.{ThreadNo}
+use Rattle.numbered_runs.specs.Machine.{Machine, Runner, Progress, Goes, Over, thread_in, made_in, ended_with}
+use Rattle.cc_ops.specs.Shelves.{Thing, cell_in, cells_in, is_held, slots_in, home_in}
+use Rattle.cc_core.specs.Needs.{Need, Known, Filled, Unfilled, AllCells, Object, Free, Done, Deeper, Threads, ThreadAt, Slots, FirstSlots, Processor, Constructs}
+use Rattle.cc_core.specs.Needs.{Verdict, Go, Hold, Bad, one, of_result, at_object, read, writable, value_in, all_in, object_there, room, and_also}
+use Rattle.numbered_runs.specs.Looks.{needs, has_ended, all_ended, check, check_all}
+use Rattle.std.specs.Prelude.{is_some}
 use Rattle.numbered_runs.specs.Stands.{Stands, is_object, IsThread, Alike, SameCell, SameLive, SameState, SameInside, IsThreadAt, IsThingAt, IsShelf}
 use Rattle.numbered_runs.proofs.Lists.{pairwise_length, pairwise_append, SameOption, same_option}
 use Rattle.numbered_runs.proofs.Naming.{same_objects, table_at, shelf_at, thread_at, thing_at, home, pointer_home}
@@ -109,7 +112,7 @@ module _ (n : Numbers) where
 
   pointed_same : (v : Value Address) (u : Value Name) (f : Address → ℕ → Verdict) (g : Name → ℕ → core.Verdict) → Alike n v u
       → ((a : Address) (o : Name) (i j : ℕ) → Told (is_object n) a o → i ≡ j → SameVerdict (f a i) (g o j))
-      → SameVerdict (at_address v (Bad NullPointer) f) (core.at_object u (core.Bad NullPointer) g)
+      → SameVerdict (at_object v (Bad NullPointer) f) (core.at_object u (core.Bad NullPointer) g)
   pointed_same Void Void f g h each = refl
   pointed_same (Int i) (Int j) f g h each = refl
   pointed_same Null Null f g h each = refl

@@ -17,9 +17,10 @@ use Rattle.cc_core.specs.Steps as steps
 use Rattle.cc_code.specs.Code.{Then, Move, Silent, Does, Ends, Stuck, move}
 use Rattle.code_names.specs.Same.{Told, SameAsk}
 use Rattle.numbered_threads.specs.Numbered.{Naming, IsLater, GoesOnAlike, MovesAlike}
-use Rattle.numbered_runs.specs.declared.number.ThreadNo.{ThreadNo}
+use Rattle.cc_ops.specs.declared.number.ThreadNo.{ThreadNo}
 use Rattle.numbered_runs.specs.Machine.{Machine, Runner, Progress, Goes, Over, thread_in, ended_with}
-use Rattle.numbered_runs.specs.Needs.{Verdict, Go, Hold, Bad, needs, check_all}
+use Rattle.cc_core.specs.Needs.{Verdict, Go, Hold, Bad}
+use Rattle.numbered_runs.specs.Looks.{needs, check_all}
 use Rattle.numbered_runs.specs.Stands.{Stands, IsThread, is_object, IsAsk, SameAsked, SameLive, SameState, IsThreadAt}
 use Rattle.numbered_runs.specs.Steps.{Gone, decide, join, act_asked, act, act_progress, step}
 use Rattle.numbered_runs.specs.Alike.{IsLive, DoesAlike}

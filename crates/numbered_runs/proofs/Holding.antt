@@ -13,7 +13,8 @@ use Rattle.cc_core.specs.Needs.{is_inside, same_object}
 use Rattle.cc_core.specs.Numbers.{Numbers}
 use Rattle.code_names.specs.Same.{Pairwise, Told}
 use Rattle.cc_core.proofs.NameLaws.{told_same, told_itself}
-use Rattle.numbered_runs.specs.Machine.{Shelf, Progress, Goes, Over, put_held}
+use Rattle.cc_ops.specs.Shelves.{Shelf, put_held}
+use Rattle.numbered_runs.specs.Machine.{Progress, Goes, Over}
 use Rattle.numbered_runs.specs.Effects.{note_held, leave, leave_all, held_after}
 use Rattle.numbered_runs.specs.Stands.{is_object, Alike, SameInside, SameState}
 use Rattle.numbered_runs.specs.Steps.{freed}

@@ -22,8 +22,9 @@ use Rattle.numbered_threads.specs.Numbered.{GoesOnAlike}
 use Rattle.run_numbers.specs.RunNumbers.{IsNumbered, goes_on}
 use Rattle.run_numbers.proofs.Numbers.{reached}
 use Rattle.one_holder.proofs.Law.{one_holder}
-use Rattle.numbered_runs.specs.declared.number.ThreadNo.{ThreadNo}
-use Rattle.numbered_runs.specs.Machine.{Machine, Shelf, Runner}
+use Rattle.cc_ops.specs.declared.number.ThreadNo.{ThreadNo}
+use Rattle.numbered_runs.specs.Machine.{Machine, Runner}
+use Rattle.cc_ops.specs.Shelves.{Shelf}
 use Rattle.numbered_runs.specs.Stands.{Stands, IsThread, is_object, Alike, SameLive, SameState, IsThreadAt}
 use Rattle.numbered_runs.specs.Steps.{resumed, joined}
 use Rattle.numbered_runs.proofs.Held.{by_it, alone, freed_is, held_with}

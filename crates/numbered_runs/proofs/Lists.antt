@@ -5,7 +5,7 @@ use Rattle.std.specs.Prelude.{slice_get}
 use Rattle.std.specs.Option.{option_and_then}
 use Rattle.code_names.specs.Same.{Pairwise}
 pub use Rattle.run_numbers.proofs.Lists.{pushed_old as get_in_front, pushed_new as get_last}
-use Rattle.numbered_runs.specs.Machine.{changed}
+use Rattle.cc_ops.specs.Shelves.{changed}
 
 -- ---- what stands at a number
 

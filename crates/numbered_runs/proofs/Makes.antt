@@ -16,7 +16,8 @@ use Rattle.code_names.proofs.Values.{value_later}
 use Rattle.numbered_threads.specs.Numbered.{IsLater}
 use Rattle.run_numbers.proofs.Free.{AllFree, writes_some, none_or_some}
 use Rattle.run_numbers.proofs.Slots.{slots_housed}
-use Rattle.numbered_runs.specs.Machine.{Machine, Shelf}
+use Rattle.numbered_runs.specs.Machine.{Machine}
+use Rattle.cc_ops.specs.Shelves.{Shelf}
 use Rattle.numbered_runs.specs.Effects.{Effect, write_all, more_shelves, put_things, addresses}
 use Rattle.numbered_runs.specs.Stands.{Stands, is_object, Alike, SameCell}
 use Rattle.numbered_runs.proofs.Lists.{pairwise_kept, pairwise_length}

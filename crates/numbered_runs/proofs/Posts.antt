@@ -22,9 +22,9 @@ use Rattle.run_numbers.proofs.Numbers.{objects_are_numbered}
 use Rattle.run_numbers.proofs.Homes.{made_at_home}
 use Rattle.cc_core.proofs.NameLaws.{told_same, told_itself}
 use Rattle.run_numbers.proofs.Processors.{one_number}
-use Rattle.numbered_runs.specs.declared.number.ThreadNo.{ThreadNo}
+use Rattle.cc_ops.specs.declared.number.ThreadNo.{ThreadNo}
 use Rattle.numbered_runs.specs.Machine.{Machine, Progress, Goes, Over, thread_in}
-use Rattle.numbered_runs.specs.Needs.{Values}
+use Rattle.cc_ops.specs.Machine.{Values}
 use Rattle.numbered_runs.specs.Posts.{where_address, posted, move_posts, posts}
 use Rattle.numbered_runs.specs.Stands.{Stands, IsThread, is_object, Alike, SameAsked, SameState}
 use Rattle.numbered_runs.proofs.Naming.{object_place, thread_at}

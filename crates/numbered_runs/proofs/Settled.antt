@@ -17,7 +17,7 @@ use Rattle.numbered_threads.specs.Numbered.{Stands as Follows}
 use Rattle.numbered_threads.specs.Quiet.{quiet_end}
 use Rattle.numbered_threads.proofs.Numbered.{quiet_stands, moves_alike}
 use Rattle.numbered_threads.proofs.QuietLaws.{kept_quietly, quiet_end_is_loud}
-use Rattle.numbered_runs.specs.declared.number.ThreadNo.{ThreadNo}
+use Rattle.cc_ops.specs.declared.number.ThreadNo.{ThreadNo}
 use Rattle.numbered_runs.specs.Machine.{Runner}
 use Rattle.numbered_runs.specs.Stands.{IsThread, is_object, IsAsk, SameInside, SameAsked, SameLive, SameState}
 use Rattle.numbered_runs.specs.Steps.{ended_or, with_thread, settle}

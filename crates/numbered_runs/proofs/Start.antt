@@ -29,9 +29,11 @@ use Rattle.one_holder.proofs.Values.{holds_found}
 use Rattle.run_numbers.specs.RunNumbers.{begins}
 use Rattle.run_numbers.proofs.Lists.{listed_empty}
 use Rattle.run_numbers.proofs.Free.{first_parameters_free}
-use Rattle.numbered_runs.specs.Machine.{Shelf, Runner, no_shelf}
-use Rattle.numbered_runs.specs.Needs.{Values}
-use Rattle.numbered_runs.specs.Effects.{cells_with, parameters}
+use Rattle.cc_ops.specs.Shelves.{Shelf, no_shelf}
+use Rattle.numbered_runs.specs.Machine.{Runner}
+use Rattle.cc_ops.specs.Machine.{Values}
+use Rattle.cc_core.specs.Effects.{cells_with}
+use Rattle.numbered_runs.specs.Effects.{parameters}
 use Rattle.numbered_runs.specs.Stands.{Stands, is_object, SameCell, IsThreadAt, IsThingAt, AreThreads}
 use Rattle.numbered_runs.specs.Steps.{settle}
 use Rattle.numbered_runs.specs.Alike.{ints, first_machine, first_shelves, first_addresses}

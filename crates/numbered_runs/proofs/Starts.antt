@@ -20,7 +20,7 @@ use Rattle.numbered_threads.specs.Numbered.{Stands as Follows}
 use Rattle.numbered_threads.proofs.Numbered.{later_stands}
 use Rattle.run_numbers.specs.RunNumbers.{IsListed}
 use Rattle.run_numbers.proofs.Free.{AllFree}
-use Rattle.numbered_runs.specs.declared.number.ThreadNo.{ThreadNo}
+use Rattle.cc_ops.specs.declared.number.ThreadNo.{ThreadNo}
 use Rattle.numbered_runs.specs.Machine.{Machine, Progress, Goes, Over, put_thread, made_in}
 use Rattle.numbered_runs.specs.Stands.{Stands, is_object, IsThread, SameInside, SameAsked, SameState, IsThreadAt}
 use Rattle.numbered_runs.specs.Steps.{settle, new_runner, settle_all, more_tables, push_all, numbers_on}

@@ -13,8 +13,9 @@ use Rattle.code_names.specs.Same.{Pairwise}
 use Rattle.run_numbers.specs.RunNumbers.{IsListed}
 use Rattle.run_numbers.proofs.Lists.{listed_same, listed_other}
 use Rattle.run_numbers.proofs.Free.{threads_stay}
-use Rattle.numbered_runs.specs.declared.number.ThreadNo.{ThreadNo}
-use Rattle.numbered_runs.specs.Machine.{Progress, changed, put_thread, push_thread, made_in}
+use Rattle.cc_ops.specs.declared.number.ThreadNo.{ThreadNo}
+use Rattle.numbered_runs.specs.Machine.{Progress, put_thread, push_thread, made_in}
+use Rattle.cc_ops.specs.Shelves.{changed}
 use Rattle.numbered_runs.specs.Stands.{IsThread}
 use Rattle.numbered_runs.specs.Steps.{push_all, numbers_on}
 use Rattle.numbered_runs.proofs.Lists.{get_one, get_last, pairwise_length, pairwise_right, pairwise_kept, pairwise_changed, pairwise_push}

@@ -15,10 +15,12 @@ use Rattle.cc_core.specs.Effects as core
 use Rattle.cc_core.specs.Numbers.{Numbers}
 use Rattle.cc_code.specs.Code.{Thread, Starting}
 use Rattle.code_names.specs.Same.{Told, SameAsk}
-use Rattle.numbered_runs.specs.declared.number.ThreadNo.{ThreadNo}
-use Rattle.numbered_runs.specs.Machine.{Machine, Shelf, Runner}
-use Rattle.numbered_runs.specs.Needs.{Values}
-use Rattle.numbered_runs.specs.Effects.{effect, branch_count, start_home, is_call, held_after}
+use Rattle.cc_ops.specs.declared.number.ThreadNo.{ThreadNo}
+use Rattle.numbered_runs.specs.Machine.{Machine, Runner}
+use Rattle.cc_ops.specs.Shelves.{Shelf}
+use Rattle.cc_ops.specs.Machine.{Values}
+use Rattle.numbered_runs.specs.Effects.{effect, start_home, held_after}
+use Rattle.cc_core.specs.Effects.{branch_count, is_call}
 use Rattle.numbered_runs.specs.Stands.{Stands, IsThread, is_object, Alike}
 use Rattle.numbered_runs.proofs.Naming.{home, pointer_home}
 

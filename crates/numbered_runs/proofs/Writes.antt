@@ -14,7 +14,7 @@ use Rattle.cc_core.specs.Numbers.{Numbers, listed}
 use Rattle.cc_core.proofs.Maps.{get_same, get_other}
 use Rattle.code_names.specs.Same.{Pairwise, Told, SameValue}
 use Rattle.run_numbers.specs.RunNumbers.{IsListed}
-use Rattle.numbered_runs.specs.Machine.{Thing, Shelf, changed, put_cell, cell_in}
+use Rattle.cc_ops.specs.Shelves.{Thing, Shelf, changed, put_cell, cell_in}
 use Rattle.numbered_runs.specs.Effects.{write_value, write_at, write_all}
 use Rattle.numbered_runs.specs.Stands.{is_object, Alike, SameCell}
 use Rattle.numbered_runs.proofs.Lists.{SameOption, same_option, pairwise_right}

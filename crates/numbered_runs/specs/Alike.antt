@@ -9,9 +9,10 @@ use Rattle.cc_core.specs.Steps as core
 use Rattle.cc_core.specs.Numbers.{Numbers, numbers_step}
 use Rattle.cc_code.specs.Code.{Runs, enter_at}
 use Rattle.cc_code.specs.Layout.{layout}
-use Rattle.numbered_runs.specs.declared.number.ThreadNo.{ThreadNo}
-use Rattle.numbered_runs.specs.Machine.{Machine, Shelf, no_shelf}
-use Rattle.numbered_runs.specs.Needs.{Values}
+use Rattle.cc_ops.specs.declared.number.ThreadNo.{ThreadNo}
+use Rattle.numbered_runs.specs.Machine.{Machine}
+use Rattle.cc_ops.specs.Shelves.{Shelf, no_shelf}
+use Rattle.cc_ops.specs.Machine.{Values}
 use Rattle.numbered_runs.specs.Effects.{parameters, put_things, addresses}
 use Rattle.numbered_runs.specs.Stands.{Stands, IsThread}
 use Rattle.numbered_runs.specs.Steps.{Outcome, Gone, Waits, Faults, Moves, settle}

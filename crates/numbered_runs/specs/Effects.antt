@@ -1,17 +1,17 @@
 -- What an ask changes besides what its own thread has left to do, by numbers.
 use Rattle.std.specs.Prelude.{ℕ, zero, suc, Bool, true, false, if◌then◌else◌, List, [], ◌∷◌, ◌++◌, length, drop, replicate, Option, Some, None}
-use Rattle.std.specs.Fmt.{signed_decimal}
-use Rattle.cc_ops.specs.Values.{Value, Cell, Void, Int, Null, Ptr, fresh, started, Result, Gives, Fails, Plain, int_of, first, after_first}
+use Rattle.cc_ops.specs.Values.{Value, Cell, Void, Int, Null, Ptr, fresh, started, Result, Gives, Fails, Plain, first}
 use Rattle.cc_ops.specs.Cells.{written}
 use Rattle.cc_ops.specs.Classes.{construct}
 use Rattle.cc_ops.specs.declared.kind.Kind.{Kind}
-use Rattle.cc_ops.specs.Machine.{Address, same_address}
-use Rattle.cc_core.specs.Core.{PrintPart, Number, Text, Endl, Shapes, function_shape, class_shape}
+use Rattle.cc_ops.specs.Machine.{Address, Values, same_address}
+use Rattle.cc_core.specs.Core.{Shapes, function_shape, class_shape}
 use Rattle.cc_core.specs.Asks.{Ask, Reads, Writes, Copies, Indexes, Shifts, Computes, Tests, Makes, MakesWith, Builds, Enters, Leaves}
 use Rattle.cc_core.specs.Asks.{ForksAll, ForksOne, Joins, Spawns, Prints, Calls, Casts, NewProcessor}
+use Rattle.cc_core.specs.Effects.{cells_with, constructed, printed, left_behind}
 use Rattle.cc_code.specs.Code.{Thread, Starting}
-use Rattle.numbered_runs.specs.Machine.{Machine, Shelf, Runner, cell_in, put_cell, put_thing, put_held, no_shelf, next_address, home_in}
-use Rattle.numbered_runs.specs.Needs.{Values}
+use Rattle.numbered_runs.specs.Machine.{Machine, Runner}
+use Rattle.cc_ops.specs.Shelves.{Shelf, cell_in, put_cell, put_thing, put_held, no_shelf, next_address, home_in}
 
 -- objects: those that are made, in order, each on a processor. writes: the values written, each with its address. starts: the threads that are
 -- made, besides branches. processors: how many are made. prints: the bytes written. inside: the functions that the thread is inside afterwards
@@ -33,28 +33,10 @@ object r q cells = record (nothing r) { objects = (q, cells) ∷ [] }
 abbrev pub start : Runner → ℕ → Value Address → Values → Effect
 start r f o vs = record (nothing r) { starts = Starting f o vs ∷ [] }
 
-abbrev pub cells_with : List Kind → Values → List (Cell Address)
-cells_with [] vs = []
-cells_with (kind ∷ kinds) vs = started kind (first vs) ∷ cells_with kinds (after_first vs)
-
 -- the objects of parameters, of which each takes as many values as it has cells
 abbrev pub parameters : (q : ℕ) → List (List Kind) → Values → List (ℕ × List (Cell Address))
 parameters q [] vs = []
 parameters q (kinds ∷ more) vs = (q, cells_with kinds vs) ∷ parameters q more (drop (length kinds) vs)
-
-abbrev pub constructed : Result (List (Cell Address)) → List (Cell Address)
-constructed (Gives cells) = cells
-constructed (Fails kind) = []
-
-abbrev pub printed : List PrintPart → Values → List ℕ
-printed [] vs = []
-printed (Number ∷ parts) vs = signed_decimal (int_of (first vs)) ++ printed parts (after_first vs)
-printed (Text bytes ∷ parts) vs = bytes ++ printed parts vs
-printed (Endl ∷ parts) vs = 10 ∷ printed parts vs
-
-abbrev pub left_behind : List (ℕ × Value Address) → List (ℕ × Value Address)
-left_behind [] = []
-left_behind (e ∷ es) = es
 
 -- of an ask of a thread on processor q, where `found` are the values that its needs found
 abbrev pub effect : Machine → (q : ℕ) → Runner → Ask Address → (found : Values) → Effect
@@ -83,21 +65,11 @@ effect w q r (Casts f o vs) found = start r f o vs
 effect w q r (NewProcessor c vs) found =
     record (object r (length w.shelves) (constructed (construct same_address (class_shape w.code.shapes c) vs))) { processors = 1 }
 
--- how many branches are made
-abbrev pub branch_count : Ask Address → ℕ
-branch_count (ForksAll n) = n
-branch_count (ForksOne v) = 1
-branch_count q = 0
-
 -- the processor of the threads that a thread on processor q makes
 abbrev pub start_home : (q : ℕ) → Ask Address → ℕ
 start_home q (Calls f o vs) = home_in o
 start_home q (Casts f o vs) = home_in o
 start_home q ask = q
-
-abbrev pub is_call : Ask Address → Bool
-is_call (Calls f o vs) = true
-is_call q = false
 
 -- ---- objects after an effect
 

@@ -1,5 +1,5 @@
 pub mod Machine
-pub mod Needs
+pub mod Looks
 pub mod Effects
 pub mod Steps
 pub mod Posts

@@ -5,13 +5,13 @@ use Rattle.cc_ops.specs.Machine.{Address}
 use Rattle.cc_core.specs.Asks.{Ask, Reads, Writes, Calls, Casts, NewProcessor}
 use Rattle.cc_core.specs.Numbers.{Post, Get, Put, Call, Cast, Make}
 use Rattle.cc_code.specs.Code.{Code, Move, Silent, Does, Ends, Stuck, move}
-use Rattle.numbered_runs.specs.declared.number.ThreadNo.{ThreadNo}
+use Rattle.cc_ops.specs.declared.number.ThreadNo.{ThreadNo}
 use Rattle.numbered_runs.specs.Machine.{Progress, Goes, Over}
-use Rattle.numbered_runs.specs.Needs.{at_address}
+use Rattle.cc_core.specs.Needs.{at_object}
 
 -- through a null pointer nothing is posted
 abbrev pub where_address : Value Address → Post → Option Post
-where_address a post = at_address a None (λ o x. Some post)
+where_address a post = at_object a None (λ o x. Some post)
 
 abbrev pub posted : Ask Address → Option Post
 posted (Reads true a) = where_address a (Get a)

@@ -16,8 +16,9 @@ use Rattle.cc_code.specs.Layout.{layout}
 use Rattle.code_names.specs.Same.{Pairwise, Told, SameValue}
 use Rattle.numbered_threads.specs.Numbered.{Stands as Follows}
 use Rattle.run_numbers.specs.RunNumbers.{IsNumbered}
-use Rattle.numbered_runs.specs.declared.number.ThreadNo.{ThreadNo}
-use Rattle.numbered_runs.specs.Machine.{Machine, Thing, Shelf, Runner, Progress, Goes, Over}
+use Rattle.cc_ops.specs.declared.number.ThreadNo.{ThreadNo}
+use Rattle.numbered_runs.specs.Machine.{Machine, Runner, Progress, Goes, Over}
+use Rattle.cc_ops.specs.Shelves.{Thing, Shelf}
 
 -- ---- which numbers stand for which names
 

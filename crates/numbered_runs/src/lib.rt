@@ -15,11 +15,7 @@ ghost use Rattle.numbered_runs.specs.Machine.{Machine, thread_in, all_going};
 ghost use Rattle.numbered_runs.specs.Posts.{posts};
 ghost use Rattle.numbered_runs.specs.Stands.{Stands, IsThread};
 ghost use Rattle.numbered_runs.specs.Steps.{step};
-ghost use Rattle.numbered_runs.specs.declared.number.ThreadNo.{ThreadNo};
-
-mod number;
-
-pub use number::ThreadNo;
+ghost use Rattle.cc_ops.specs.declared.number.ThreadNo.{ThreadNo};
 
 /// The machine of numbers at the beginning of a run stands for the configuration where the run begins.
 pub fn numbered_run_begins()

@@ -23,7 +23,7 @@ use Rattle.cc_walk.specs.Enabled.{IsFirst, CanMove, IsMainInt}
 use Rattle.cc_walk.specs.declared.walk.Stepped.{Stepped}
 use Rattle.cc_walk.specs.declared.walk.Stepped.TheVariants as stepped
 use Rattle.effect_journal.specs.declared.entry.FaultBy.{FaultBy}
-use Rattle.numbered_runs.specs.declared.number.ThreadNo.{ThreadNo}
+use Rattle.cc_ops.specs.declared.number.ThreadNo.{ThreadNo}
 use Rattle.numbered_runs.specs.Machine.{Machine}
 use Rattle.numbered_runs.specs.Stands.{IsThread}
 use Rattle.trace_check.specs.Replays.{TellsRest}

@@ -14,7 +14,7 @@ use Rattle.cc_explains.specs.Moves.{posted_at, asker, IsServedAt}
 use Rattle.cc_explains.specs.Explains.{IsRequest}
 use Rattle.cc_explains.proofs.Reading.{same_request}
 use Rattle.cc_walk.specs.Posted.{anybody, AreValues, Says, IsPosted, AsksFor}
-use Rattle.numbered_runs.specs.declared.number.ThreadNo.{ThreadNo}
+use Rattle.cc_ops.specs.declared.number.ThreadNo.{ThreadNo}
 use Rattle.rsr_message.specs.declared.requests.Request.{Request}
 use Rattle.rsr_message.specs.declared.requests.Body.{Body}
 use Rattle.rsr_message.specs.declared.requests.Body.TheVariants as body

@@ -14,7 +14,7 @@ use Rattle.cc_explains.proofs.Reading.{joined, read_explained}
 use Rattle.effect_journal.specs.declared.entry.Entry.{Entry}
 use Rattle.effect_journal.specs.declared.entry.Entry.TheVariants.{Run, End}
 use Rattle.effect_journal.specs.declared.entry.FaultBy.{FaultBy}
-use Rattle.numbered_runs.specs.declared.number.ThreadNo.{ThreadNo}
+use Rattle.cc_ops.specs.declared.number.ThreadNo.{ThreadNo}
 
 own_joined : (p : Program) (t : ThreadNo) (ms ns : List Step) → AllByRecursion (IsOwnStep p t) ms → AllByRecursion (IsOwnStep p t) ns
     → AllByRecursion (IsOwnStep p t) (ms ++ ns)

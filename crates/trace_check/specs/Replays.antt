@@ -13,7 +13,7 @@ use Rattle.cc_explains.specs.Unexplained.{AgainstOwn, AgainstServing, IsFirst, F
 use Rattle.cc_walk.specs.Views.{machine_of}
 use Rattle.effect_journal.specs.declared.entry.Entry.{Entry}
 use Rattle.effect_journal.specs.declared.entry.Entry.TheVariants.{Run}
-use Rattle.numbered_runs.specs.declared.number.ThreadNo.{ThreadNo}
+use Rattle.cc_ops.specs.declared.number.ThreadNo.{ThreadNo}
 use Rattle.numbered_runs.specs.Stands.{Stands, IsThread}
 use Rattle.trace_check.specs.declared.replay.Replay.{Replay}
 

@@ -1,6 +1,6 @@
 -- An item that is changed in a list.
 use Rattle.std.proofs.Common.{◌≡◌, ℕ, zero, suc, ◌<◌, ◌≤◌, List, [], ◌∷◌, length, map, get_or, slice_set, refl, ap, ◌∙◌, arith}
-use Rattle.numbered_runs.specs.Machine.{changed}
+use Rattle.cc_ops.specs.Shelves.{changed}
 
 -- the item that is there is set to what a change makes of it
 pub set_changed : {X : Type 0} (f : X → X) (xs : List X) (i : ℕ) (x y : X) → i < length xs → x ≡ get_or xs i x → y ≡ f x → slice_set xs i y ≡ changed xs i f

@@ -2,7 +2,7 @@
 use Rattle.std.specs.Prelude.{ℕ, ◌+◌, Bool, false, List, [], ◌∷◌, ◌++◌, length}
 use Rattle.cc_ops.specs.Values.{Cell}
 use Rattle.cc_ops.specs.Machine.{Address}
-use Rattle.numbered_runs.specs.Machine.{Thing, Shelf, changed}
+use Rattle.cc_ops.specs.Shelves.{Thing, Shelf, changed}
 
 abbrev pub with_cell : ℕ → Cell Address → Thing → Thing
 with_cell x c t = record { cells = changed t.cells x (λ d. c); held = t.held }

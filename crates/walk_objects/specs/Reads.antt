@@ -6,8 +6,8 @@ use Rattle.global_ptr.specs.declared.values.Addr.{Addr}
 use Rattle.global_ptr.specs.declared.values.Value.{Value as RustValue}
 use Rattle.cc_ops.specs.Values.{Value}
 use Rattle.cc_ops.specs.Machine.{Address, value_of}
-use Rattle.numbered_runs.specs.Machine.{Shelf, cell_in}
-use Rattle.numbered_runs.specs.Needs.{Verdict, Go, Hold, Bad, at_address, read, writable}
+use Rattle.cc_ops.specs.Shelves.{Shelf, cell_in}
+use Rattle.cc_core.specs.Needs.{Verdict, Go, Hold, Bad, at_object, read, writable}
 use Rattle.numbered_runs.specs.Effects.{write_value}
 
 abbrev pub address_at : Addr → Address
@@ -15,10 +15,10 @@ address_at a = record { processor = a.processor; object = a.object }
 
 -- whether a value may be read from an address, or written to it
 abbrev pub reading : List Shelf → (from : Value Address) → Verdict
-reading shelves from = at_address from (Bad NullPointer) (λ a x. read (cell_in shelves a x))
+reading shelves from = at_object from (Bad NullPointer) (λ a x. read (cell_in shelves a x))
 
 abbrev pub writing : List Shelf → (to : Value Address) → Verdict
-writing shelves to = at_address to (Bad NullPointer) (λ a x. writable (cell_in shelves a x))
+writing shelves to = at_object to (Bad NullPointer) (λ a x. writable (cell_in shelves a x))
 
 abbrev pub IsRead : Verdict → Result (Option RustValue) FaultKind → Type 0
 IsRead verdict (Ok (Some v)) = verdict ≡ Go (value_of v ∷ [])

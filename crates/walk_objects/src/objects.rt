@@ -1,7 +1,7 @@
 ghost use Rattle.std.specs.Prelude.{◌≡◌, ◌++◌, ◌∷◌, [], length, map, OnOk, IfOk};
 ghost use Rattle.std.specs.Option.{option_map};
 ghost use Rattle.cc_ops.specs.Machine.{value_of, cell_of};
-ghost use Rattle.numbered_runs.specs.Machine.{cell_in, slots_in, is_held, put_cell, put_held, put_thing, no_shelf, next_address};
+ghost use Rattle.cc_ops.specs.Shelves.{cell_in, slots_in, is_held, put_cell, put_held, put_thing, no_shelf, next_address};
 ghost use Rattle.walk_objects.specs.Changes.{with_cell, with_held, with_thing, with_new};
 ghost use Rattle.walk_objects.specs.Reads.{address_at, reading, IsRead, IsWritten};
 
@@ -22,7 +22,7 @@ struct Object {
 impl Model for Object {
     ghost use Rattle.std.specs.Prelude.{map};
     ghost use Rattle.cc_ops.specs.Machine.{cell_of};
-    ghost use Rattle.numbered_runs.specs.Machine.{Thing};
+    ghost use Rattle.cc_ops.specs.Shelves.{Thing};
 
     ghost Value = { Thing };
 
@@ -37,7 +37,7 @@ struct Shelf {
 }
 
 impl Model for Shelf {
-    ghost use Rattle.numbered_runs.specs.Machine.{Shelf as Shown};
+    ghost use Rattle.cc_ops.specs.Shelves.{Shelf as Shown};
 
     ghost Value = { Shown };
 
@@ -94,7 +94,7 @@ pub struct Objects {
 
 impl Model for Objects {
     ghost use Rattle.std.specs.Prelude.{List};
-    ghost use Rattle.numbered_runs.specs.Machine.{Shelf as Shown};
+    ghost use Rattle.cc_ops.specs.Shelves.{Shelf as Shown};
 
     ghost Value = { List Shown };
 

@@ -1,6 +1,6 @@
 use Rattle.std.proofs.Common.{◌≡◌, ◌++◌, map, drop}
 use Rattle.cc_ops.specs.Machine.{value_of, cell_of}
-use Rattle.numbered_runs.specs.Effects.{cells_with}
+use Rattle.cc_core.specs.Effects.{cells_with}
 use Rattle.cc_walk.proofs.parameters.cells_with.Given as goal
 
 abbrev pub invariant-loop-k : goal.invariant-loop-k

@@ -1,6 +1,6 @@
 use Rattle.std.proofs.Common.{map, drop, ap, ◌∙◌}
 use Rattle.cc_ops.specs.Machine.{value_of}
-use Rattle.numbered_runs.specs.Effects.{cells_with}
+use Rattle.cc_core.specs.Effects.{cells_with}
 use Rattle.cc_walk.proofs.LoopLaws.{objects_left, addresses_left}
 use Rattle.cc_walk.proofs.parameters.parameters.Goals as goal
 

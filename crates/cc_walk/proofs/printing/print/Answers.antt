@@ -4,7 +4,7 @@ use Rattle.std.specs.Fmt.{signed_decimal}
 use Rattle.cc_core.specs.View.{part_of}
 use Rattle.cc_ops.specs.Values.{int_of}
 use Rattle.cc_ops.specs.Machine.{value_of}
-use Rattle.numbered_runs.specs.Effects.{printed}
+use Rattle.cc_core.specs.Effects.{printed}
 use Rattle.cc_walk.proofs.LoopLaws.{number_left, text_left, endl_left}
 use Rattle.cc_walk.proofs.printing.print.Goals as goal
 use Rattle.cc_walk.proofs.printing.print.Goals.{in-Number+in_ok-text-in-Number+in_ok-extend_from_slice-in-Number, in-Text+in_ok-extend_from_slice-in-Text, in-Endl+in_ok-push-in-Endl}

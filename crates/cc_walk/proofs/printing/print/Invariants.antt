@@ -1,7 +1,7 @@
 use Rattle.std.proofs.Common.{◌≡◌, ◌≤◌, ◌++◌, map, drop}
 use Rattle.cc_ops.specs.Machine.{value_of}
 use Rattle.cc_core.specs.View.{part_of}
-use Rattle.numbered_runs.specs.Effects.{printed}
+use Rattle.cc_core.specs.Effects.{printed}
 use Rattle.cc_walk.proofs.printing.print.Given as goal
 
 abbrev pub invariant-loop-part : goal.invariant-loop-part

@@ -1,6 +1,6 @@
 use Rattle.std.proofs.Common.{◌≡◌, ◌+◌, ◌≤◌, drop, length, slice_index_or, refl, sym, ap, ◌∙◌, arith}
 use Rattle.std.proofs.lemmas.List.{drop_all, drop_more}
-use Rattle.numbered_runs.specs.Needs.{all_ended}
+use Rattle.numbered_runs.specs.Looks.{all_ended}
 use Rattle.cc_walk.proofs.JoinLaws.{passed, stopped}
 use Rattle.cc_walk.proofs.answer.Asker.going_from.Goals as goal
 

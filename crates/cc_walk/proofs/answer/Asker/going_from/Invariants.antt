@@ -1,5 +1,5 @@
 use Rattle.std.proofs.Common.{◌≡◌, drop}
-use Rattle.numbered_runs.specs.Needs.{all_ended}
+use Rattle.numbered_runs.specs.Looks.{all_ended}
 use Rattle.cc_walk.proofs.answer.Asker.going_from.Given as goal
 
 -- those that were passed have ended

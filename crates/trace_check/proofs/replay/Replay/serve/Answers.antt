@@ -1,7 +1,7 @@
 use Rattle.std.proofs.Common.{true, false, sym, ◌∙◌, subst}
 use Rattle.std.proofs.lemmas.Bool.{true≢false}
 use Rattle.std.proofs.lemmas.Result.{IfOk-weaker}
-use Rattle.numbered_runs.specs.declared.number.ThreadNo.{ThreadNo}
+use Rattle.cc_ops.specs.declared.number.ThreadNo.{ThreadNo}
 use Rattle.trace_check.specs.Replays.{MakesStep, TellsLife}
 use Rattle.trace_check.proofs.ReplayLaws.{no_message, other_request, dead_asker, serving_goes_on}
 use Rattle.trace_check.proofs.replay.Replay.serve.Goals as goal
