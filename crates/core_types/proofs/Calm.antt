@@ -326,7 +326,7 @@ module _ (p : Program) (y : Types) (ok : HasTypes p y) (plain : IsPlainProgram p
 
 -- what is asked where nothing may wait never waits
 
-not_both : (v z : Verdict) → (v ≡ Hold → ⊥) → (z ≡ Hold → ⊥) → and_also v z ≡ Hold → ⊥
+not_both : (v z : Verdict Name) → (v ≡ Hold → ⊥) → (z ≡ Hold → ⊥) → and_also v z ≡ Hold → ⊥
 not_both (Go a) (Go b) f g e = let x : Go (a ++ b) ≡ Hold = e in cc
 not_both (Go a) Hold f g e = g refl
 not_both (Go a) (Bad kind) f g e = let x : Bad kind ≡ Hold = e in cc
@@ -414,7 +414,7 @@ module _ (p : Program) (y : Types) (w : World) (s : Config) (stored : InStep y w
   read_at Null a sync u f i e g = is_bad _ g
   read_at (Ptr o x) a sync u f i e g = read_cell o x a sync u f i e (cell s o x) refl g
 
-  last : (v : Verdict) → (v ≡ Hold → ⊥) → and_also v (Go []) ≡ Hold → ⊥
+  last : (v : Verdict Name) → (v ≡ Hold → ⊥) → and_also v (Go []) ≡ Hold → ⊥
   last v f e = not_both v (Go []) f (go_on []) e
 
   deeper_goes : check h s t l Deeper ≡ Hold → ⊥
