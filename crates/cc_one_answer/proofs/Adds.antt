@@ -92,7 +92,7 @@ processors_of (NewProcessor c vs) = 1
 
 -- room or not
 pub room_case : (made n most : ℕ) (kind : FaultKind)
-    → ((room made n most kind ≡ Go []) × (made + n ≤ most)) ⊎ ((room made n most kind ≡ Bad kind) × (most < made + n))
+    → ((room {N = Name} made n most kind ≡ Go []) × (made + n ≤ most)) ⊎ ((room {N = Name} made n most kind ≡ Bad kind) × (most < made + n))
 room_case made n most kind = ⊎_elim
     (λ (e : nat_le (made + n) most ≡ true). inl (ap (λ b. cond b (Go []) (Bad kind)) e, leb-true _ _ e))
     (λ (e : nat_le (made + n) most ≡ false). inr (ap (λ b. cond b (Go []) (Bad kind)) e, leb-false _ _ e))

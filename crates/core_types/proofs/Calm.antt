@@ -336,14 +336,14 @@ not_both (Bad kind) z f g e = let x : Bad kind ≡ Hold = e in cc
 go_on : (found : List Value) → Go found ≡ Hold → ⊥
 go_on found e = cc
 
-is_bad : (kind : FaultKind) → Bad kind ≡ Hold → ⊥
+is_bad : (kind : FaultKind) → ◌≡◌ {A = Verdict Name} (Bad kind) Hold → ⊥
 is_bad kind e = cc
 
 result_goes : {A : Type 0} (r : Result A) (f : A → List Value) → of_result r f ≡ Hold → ⊥
 result_goes (Gives x) f e = go_on _ e
 result_goes (Fails kind) f e = is_bad kind e
 
-room_goes : (made n most : ℕ) (kind : FaultKind) → room made n most kind ≡ Hold → ⊥
+room_goes : (made n most : ℕ) (kind : FaultKind) → room {N = Name} made n most kind ≡ Hold → ⊥
 room_goes made n most kind e = from (nat_le (made + n) most) e
   where
     from : (b : Bool) → cond b (Go []) (Bad kind) ≡ Hold → ⊥
@@ -377,7 +377,7 @@ never_allowed : (b : Bool) → Allowed false b → b ≡ false
 never_allowed true e = let x : false ≡ true = e in cc
 never_allowed false e = refl
 
-free_goes : (a b : Bool) → a ≡ false → cond (a && b) Hold (Go []) ≡ Hold → ⊥
+free_goes : (a b : Bool) → a ≡ false → cond {A = Verdict Name} (a && b) Hold (Go []) ≡ Hold → ⊥
 free_goes true b e f = let x : true ≡ false = e in cc
 free_goes false b e f = go_on _ f
 
