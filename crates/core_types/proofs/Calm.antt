@@ -346,7 +346,7 @@ result_goes (Fails kind) f e = is_bad kind e
 room_goes : (made n most : ℕ) (kind : FaultKind) → room {N = Name} made n most kind ≡ Hold → ⊥
 room_goes made n most kind e = from (nat_le (made + n) most) e
   where
-    from : (b : Bool) → cond b (Go []) (Bad kind) ≡ Hold → ⊥
+    from : (b : Bool) → cond {A = Verdict Name} b (Go []) (Bad kind) ≡ Hold → ⊥
     from true f = go_on _ f
     from false f = is_bad kind f
 
