@@ -39,9 +39,12 @@ inside cx start = record cx { start = start }
 abbrev pub branch : Context → ℕ → Context
 branch cx part = record cx { part = part; in_branch = true; in_loop = false }
 
--- the statement of a loop
+-- the statement of a loop; and what a loop does between two turns, which no loop around it is left from
 abbrev pub repeating : Context → Context
 repeating cx = record cx { in_loop = true }
+
+abbrev pub between : Context → Context
+between cx = record cx { in_loop = false }
 
 abbrev pub at_line : Context → ℕ → Context
 at_line cx line = record cx { line = line }
@@ -118,7 +121,7 @@ module _ (stmt : Context → Stmt → Elab Statement) where
   step cx (Some b) = stmt cx b
 
   unfoldable pub turn : Context → Option Stmt → Stmt → Elab (Statement × Statement)
-  turn cx after b = step cx after >>= (λ x. body (repeating cx) b >>= (λ y. pure (x, y)))
+  turn cx after b = step (between cx) after >>= (λ x. body (repeating cx) b >>= (λ y. pure (x, y)))
 
   -- the loop behind its start
   unfoldable pub counted : Context → Option Expr → Option Stmt → Stmt → Elab Statement

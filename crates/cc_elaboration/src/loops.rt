@@ -45,6 +45,16 @@ fn repeating<'a>(scope: &Scope<'a>) -> Scope<'a>
     }
 }
 
+/// Where a loop stands between two turns.
+fn between<'a>(scope: &Scope<'a>) -> Scope<'a>
+    ensures { context result ≡ spec.between (context scope.now) }
+{
+    Scope {
+        in_loop: false,
+        ..*scope
+    }
+}
+
 impl<
     F: Fn(Global, usize, &Scope<'_>, &mut State, &Stmt) -> Result<Statement, AllocError>,
 > Statements<F> {
@@ -159,7 +169,8 @@ impl<
         requires { Nests self.now.depth (F.pre self.now.stmt) (F.post self.now.stmt) }
         ensures { Gives (spec.turn (statement_to self.now.depth) (context scope.now) step.now body.now state.old) result state.new }
     {
-        let step = self.step(scope, state, step)?;
+        let after = between(scope);
+        let step = self.step(&after, state, step)?;
         let inside = repeating(scope);
         let body = self.boxed_body(&inside, state, body)?;
         Ok((step, body))

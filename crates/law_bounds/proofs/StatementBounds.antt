@@ -15,7 +15,7 @@ use Rattle.cc_tree.specs.declared.statements.Stmt.{Stmt, out-Stmt}
 use Rattle.cc_tree.specs.declared.statements.StmtKind.TheOpen.{StmtKind-F}
 use Rattle.cc_elaboration.specs.Simple.{no_value, int_value}
 use Rattle.cc_elaboration.specs.Statements as spec
-use Rattle.cc_elaboration.specs.Statements.{inside, branch, repeating, at_line, plain_int, names, condition, statements_from, statements, block_of, open_block, body_by, body}
+use Rattle.cc_elaboration.specs.Statements.{inside, branch, repeating, between, at_line, plain_int, names, condition, statements_from, statements, block_of, open_block, body_by, body}
 use Rattle.cc_elaboration.specs.Statements.{if_only, both, if_else, choice, repeated, step, turn, counted, headed, loop_of, part, parts_from, parts, par, no_step, step_if}
 use Rattle.cc_elaboration.specs.Statements.{header_step_by, header_step, header_rest, header, copied, each, iterated, parfor, kind_of, node, statement_to}
 use Rattle.law_depth.specs.Depth.{EachOf, IfSome, StatementLayer, statement_layer, StatementParts, StatementNestsTo}
@@ -101,9 +101,9 @@ module _ (f g : Context → Stmt → Elab Statement) where
 
   turn_same : (cx : Context) (o : Option Stmt) (b : Stmt) → IfSome Both o → Both b → (t : State) → turn f cx o b t ≡ turn g cx o b t
   unfolding turn
-  turn_same cx o b p q t = same_bind (step f cx o) (step g cx o) (λ x. body f (repeating cx) b >>= (λ y. pure (x, y)))
+  turn_same cx o b p q t = same_bind (step f (between cx) o) (step g (between cx) o) (λ x. body f (repeating cx) b >>= (λ y. pure (x, y)))
       (λ x. body g (repeating cx) b >>= (λ y. pure (x, y))) t
-      (step_same cx o p t) (λ x u. ap (λ y. pure (x, y.0) y.1) (body_same (repeating cx) b q u))
+      (step_same (between cx) o p t) (λ x u. ap (λ y. pure (x, y.0) y.1) (body_same (repeating cx) b q u))
 
   counted_same : (cx : Context) (c : Option Expr) (o : Option Stmt) (b : Stmt) → IfSome Both o → Both b → (t : State)
       → counted f cx c o b t ≡ counted g cx c o b t

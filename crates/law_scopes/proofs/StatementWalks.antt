@@ -21,7 +21,7 @@ use Rattle.cc_declared.specs.declared.role.Role.TheVariants as role
 use Rattle.cc_elaboration.specs.Declarations.{made, declaration}
 use Rattle.cc_elaboration.specs.Statements as spec
 use Rattle.cc_elaboration.specs.Simple.{no_value, int_value}
-use Rattle.cc_elaboration.specs.Statements.{inside, branch, repeating, at_line, plain_int, names, assigned_value, step_value, condition, statements_from, statements, block_of, open_block, body_by, body}
+use Rattle.cc_elaboration.specs.Statements.{inside, branch, repeating, between, at_line, plain_int, names, assigned_value, step_value, condition, statements_from, statements, block_of, open_block, body_by, body}
 use Rattle.cc_elaboration.specs.Statements.{if_only, both, if_else, choice, repeated, step, turn, counted, headed, loop_of, part, parts_from, parts, par, no_step, step_if}
 use Rattle.cc_elaboration.specs.Statements.{header_step_by, header_step, header_rest, header, copied, each, iterated, parfor, kind_of, node, statement_to, function_body}
 use Rattle.law_scopes.specs.Uses.{names_to}
@@ -141,7 +141,7 @@ module _ (stmt : Context → Stmt → Elab Statement) (marks : Stmt → Text →
 
   turn_w : (cx : Context) (after : Option Stmt) (b : Stmt) → Walks (turn stmt cx after b) (λ t. in_body marks b (in_maybe marks after t))
   unfolding turn
-  turn_w cx after b = bind_w (step_w cx after) (λ x. gives_w {B = Statement × Statement} (body_w (repeating cx) b) (λ y. (x, y)))
+  turn_w cx after b = bind_w (step_w (between cx) after) (λ x. gives_w {B = Statement × Statement} (body_w (repeating cx) b) (λ y. (x, y)))
 
   counted_w : (cx : Context) (c : Option Expr) (after : Option Stmt) (b : Stmt)
       → Walks (counted stmt cx c after b) (λ t. in_body marks b (in_maybe marks after (in_some c t)))

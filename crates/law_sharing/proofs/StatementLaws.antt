@@ -7,7 +7,7 @@ use Rattle.cc_core.specs.declared.expression.Expression.TheVariants as e
 use Rattle.cc_core.specs.declared.statement.Statement.{Statement}
 use Rattle.cc_core.specs.declared.statement.Statement.TheVariants as s
 use Rattle.cc_elaboration.specs.Simple.{no_value, print}
-use Rattle.cc_elaboration.specs.Statements.{inside, branch, repeating, at_line, plain_int, assigned_value, names, step_value, condition, statements_from}
+use Rattle.cc_elaboration.specs.Statements.{inside, branch, repeating, between, at_line, plain_int, assigned_value, names, step_value, condition, statements_from}
 use Rattle.cc_elaboration.specs.Statements.{statements, block_of, open_block}
 use Rattle.cc_elaboration.specs.Statements as elaborated
 use Rattle.cc_elaboration.specs.Statements.{if_only, both, if_else, repeated, step, turn, counted, headed, loop_of, part, parts_from, parts, par}
@@ -118,7 +118,7 @@ module _ (main : Bool) (stmt : Context → Stmt → Elab Statement) (said : (bra
   turn_a : (cx : Context) → cx.in_main ≡ main → (o : Option Stmt) (b : Stmt)
       → Adds (optional main said cx.in_branch o ++ body main said cx.in_branch b) (turn stmt cx o b)
   unfolding turn
-  turn_a cx is o b = bind_a (step_a cx is o) (λ x. last (body_a (repeating cx) is b) (λ y. done_a (x, y)))
+  turn_a cx is o b = bind_a (step_a (between cx) is o) (λ x. last (body_a (repeating cx) is b) (λ y. done_a (x, y)))
 
   counted_a : (cx : Context) → cx.in_main ≡ main → (c : Option Expr) (o : Option Stmt) (b : Stmt)
       → Adds (optional main said cx.in_branch o ++ body main said cx.in_branch b) (counted stmt cx c o b)
