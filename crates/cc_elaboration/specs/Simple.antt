@@ -122,3 +122,9 @@ returned cx (Some e) = return_some (is_void cx.result) cx e
 
 unfoldable pub give : Context → Option Expr → Elab Statement
 give cx e = note_if cx.in_branch cx r.ReturnInBranch >> returned cx e
+
+-- ---- break and continue
+
+-- a statement that leaves a loop or goes on with it stands within one, in the same parallel part
+unfoldable pub jump : Context → Statement → Elab Statement
+jump cx x = note_if (not cx.in_loop) cx r.LoopOutside >> pure x

@@ -26,7 +26,7 @@ use Rattle.cc_elaboration.specs.declared.assignments.Assignment.{Assignment}
 use Rattle.cc_elaboration.specs.declared.header.Header.{Header}
 use Rattle.cc_elaboration.specs.Assignments.{assignment, assign}
 use Rattle.cc_elaboration.specs.Declarations.{declaration}
-use Rattle.cc_elaboration.specs.Simple.{no_value, int_value, call, spawn, print, give}
+use Rattle.cc_elaboration.specs.Simple.{no_value, int_value, call, spawn, print, give, jump}
 
 abbrev pub Layer : Type 0
 Layer = StmtKind-F StmtKind Stmt
@@ -35,9 +35,16 @@ Layer = StmtKind-F StmtKind Stmt
 abbrev pub inside : Context → ℕ → Context
 inside cx start = record cx { start = start }
 
--- a parallel part that begins at this place
+-- a parallel part that begins at this place; the loops around it are none of its own
 abbrev pub branch : Context → ℕ → Context
-branch cx part = record cx { part = part; in_branch = true }
+branch cx part = record cx { part = part; in_branch = true; in_loop = false }
+
+-- the statement of a loop; and what a loop does between two turns, which no loop around it is left from
+abbrev pub repeating : Context → Context
+repeating cx = record cx { in_loop = true }
+
+abbrev pub between : Context → Context
+between cx = record cx { in_loop = false }
 
 abbrev pub at_line : Context → ℕ → Context
 at_line cx line = record cx { line = line }
@@ -107,14 +114,14 @@ module _ (stmt : Context → Stmt → Elab Statement) where
   choice cx c first (Some other) = if_else cx c first other
 
   unfoldable pub repeated : Context → Expr → Stmt → Elab Statement
-  repeated cx c b = int_value cx c >>= (λ t. stmt cx b >>= (λ x. pure (s.While t x)))
+  repeated cx c b = int_value cx c >>= (λ t. stmt (repeating cx) b >>= (λ x. pure (s.While t x)))
 
   abbrev pub step : Context → Option Stmt → Elab Statement
   step cx None = pure s.Empty
   step cx (Some b) = stmt cx b
 
   unfoldable pub turn : Context → Option Stmt → Stmt → Elab (Statement × Statement)
-  turn cx after b = step cx after >>= (λ x. body cx b >>= (λ y. pure (x, y)))
+  turn cx after b = step (between cx) after >>= (λ x. body (repeating cx) b >>= (λ y. pure (x, y)))
 
   -- the loop behind its start
   unfoldable pub counted : Context → Option Expr → Option Stmt → Stmt → Elab Statement
@@ -194,6 +201,8 @@ module _ (stmt : Context → Stmt → Elab Statement) where
   kind (StmtKind-F.If c first other) cx = choice cx c first other
   kind (StmtKind-F.While c b) cx = repeated cx c b
   kind (StmtKind-F.For first c after b) cx = loop_of cx first c after b
+  kind StmtKind-F.Break cx = jump cx s.Break
+  kind StmtKind-F.Continue cx = jump cx s.Continue
   kind (StmtKind-F.Par bs) cx = par cx bs
   kind (StmtKind-F.ParFor name start c after b) cx = parfor cx name start c after b
   kind (StmtKind-F.Spawn e) cx = spawn cx e

@@ -1,4 +1,4 @@
-ghost use Rattle.std.specs.Prelude.{◌≡◌};
+ghost use Rattle.std.specs.Prelude.{◌≡◌, length};
 ghost use Rattle.cc_scopes.specs.Elab.{Gives};
 ghost use Rattle.cc_scopes.specs.Scope.{context};
 ghost use Rattle.cc_elaboration.specs.Nests.{Nests};
@@ -61,6 +61,18 @@ fn step_value(
     Ok(assigned_value(assignment))
 }
 
+/// Where a parallel part begins. The loops around it are none of its own.
+fn branch<'a>(scope: &Scope<'a>, state: &State) -> Scope<'a>
+    ensures { context result ≡ spec.branch (context scope.now) (length state.now.locals) }
+{
+    Scope {
+        part: state.locals.len(),
+        in_branch: true,
+        in_loop: false,
+        ..*scope
+    }
+}
+
 impl<
     F: Fn(Global, usize, &Scope<'_>, &mut State, &Stmt) -> Result<Statement, AllocError>,
 > Statements<F> {
@@ -68,11 +80,7 @@ impl<
         requires { Nests self.now.depth (F.pre self.now.stmt) (F.post self.now.stmt) }
         ensures { Gives (spec.part (statement_to self.now.depth) (context scope.now) s.now state.old) result state.new }
     {
-        let branch = Scope {
-            part: state.locals.len(),
-            in_branch: true,
-            ..*scope
-        };
+        let branch = branch(scope, state);
         self.stmt(&branch, state, s)
     }
 
@@ -237,11 +245,7 @@ impl<
         requires { Nests self.now.depth (F.pre self.now.stmt) (F.post self.now.stmt) }
         ensures { Gives (spec.each (statement_to self.now.depth) (context scope.now) name.now variable body.now state.old) result state.new }
     {
-        let branch = Scope {
-            part: state.locals.len(),
-            in_branch: true,
-            ..*scope
-        };
+        let branch = branch(scope, state);
         self.copied(&branch, state, name, variable, body)
     }
 

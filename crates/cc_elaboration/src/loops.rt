@@ -35,6 +35,26 @@ fn followed(mut first: List<Statement>, last: Statement) -> Result<Statement, Al
     Ok(Statement::Block(first))
 }
 
+/// Where the statement of a loop stands.
+fn repeating<'a>(scope: &Scope<'a>) -> Scope<'a>
+    ensures { context result ≡ spec.repeating (context scope.now) }
+{
+    Scope {
+        in_loop: true,
+        ..*scope
+    }
+}
+
+/// Where a loop stands between two turns.
+fn between<'a>(scope: &Scope<'a>) -> Scope<'a>
+    ensures { context result ≡ spec.between (context scope.now) }
+{
+    Scope {
+        in_loop: false,
+        ..*scope
+    }
+}
+
 impl<
     F: Fn(Global, usize, &Scope<'_>, &mut State, &Stmt) -> Result<Statement, AllocError>,
 > Statements<F> {
@@ -118,7 +138,8 @@ impl<
         ensures { Gives (spec.repeated (statement_to self.now.depth) (context scope.now) test.now body.now state.old) result state.new }
     {
         let test = int_value(self.alloc, scope, state, test)?;
-        let body = self.boxed(scope, state, body)?;
+        let inside = repeating(scope);
+        let body = self.boxed(&inside, state, body)?;
         Ok(Statement::While(test, body))
     }
 
@@ -148,8 +169,10 @@ impl<
         requires { Nests self.now.depth (F.pre self.now.stmt) (F.post self.now.stmt) }
         ensures { Gives (spec.turn (statement_to self.now.depth) (context scope.now) step.now body.now state.old) result state.new }
     {
-        let step = self.step(scope, state, step)?;
-        let body = self.boxed_body(scope, state, body)?;
+        let after = between(scope);
+        let step = self.step(&after, state, step)?;
+        let inside = repeating(scope);
+        let body = self.boxed_body(&inside, state, body)?;
         Ok((step, body))
     }
 

@@ -325,3 +325,16 @@ pub(crate) fn give(
     note_if(scope, state, scope.in_branch, StaticRule::ReturnInBranch)?;
     returned(alloc, scope, state, e)
 }
+
+/// A `break` or a `continue`.
+#[tactic(auto, unfolding(crate::specs::Simple::jump))]
+pub(crate) fn jump(
+    scope: &Scope<'_>,
+    state: &mut State,
+    jump: Statement,
+) -> Result<Statement, AllocError>
+    ensures { Gives (spec.jump (context scope.now) jump state.old) result state.new }
+{
+    note_if(scope, state, !scope.in_loop, StaticRule::LoopOutside)?;
+    Ok(jump)
+}

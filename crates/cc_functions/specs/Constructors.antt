@@ -81,6 +81,7 @@ in_constructor cx = record cx {
   in_main = false;
   in_constructor = true;
   in_branch = false;
+  in_loop = false;
   part = 0;
   start = 0;
 }

@@ -65,6 +65,7 @@ in_function cx t is_main = record cx {
   in_main = is_main;
   in_constructor = false;
   in_branch = false;
+  in_loop = false;
   part = 0;
   start = 0;
 }

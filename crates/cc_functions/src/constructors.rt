@@ -248,6 +248,7 @@ pub(crate) fn constructor(
         in_main: false,
         in_constructor: true,
         in_branch: false,
+        in_loop: false,
         part: 0,
         start: 0,
         line,

@@ -152,6 +152,7 @@ fn parts(
         in_main: is_main,
         in_constructor: false,
         in_branch: false,
+        in_loop: false,
         part: 0,
         start: 0,
         ..*scope

@@ -127,6 +127,7 @@ impl StaticRule {
             StaticRule::ParforHeader => 25,
             StaticRule::Constructor => 26,
             StaticRule::AtomicBody => 27,
+            StaticRule::LoopOutside => 28,
         }
     }
 }

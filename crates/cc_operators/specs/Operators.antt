@@ -24,6 +24,8 @@ use Rattle.cc_scopes.specs.declared.types.Ty.{Ty}
 use Rattle.cc_scopes.specs.declared.types.Ty.TheVariants as ty
 use Rattle.cc_scopes.specs.Types.{is_int, comparable}
 use Rattle.cc_operators.specs.Folding.{negated_value, computed}
+use Rattle.cc_operators.specs.declared.joint.Joint.{Joint}
+use Rattle.cc_operators.specs.declared.joint.Joint.TheVariants as joint'
 use Rattle.cc_scopes.specs.Elab.{Elab, ◌>>=◌, ◌>>◌, pure}
 use Rattle.cc_scopes.specs.Scope.{Context}
 use Rattle.cc_scopes.specs.Typed.{broken, int, decay, share_address, pointer_to, object_pointer}
@@ -122,34 +124,43 @@ unary cx prefix.Address t = address cx t
 
 -- ---- operators between two operands
 
+-- what one is in the core
+abbrev pub joint : BinaryOp → Joint
+joint binary.Or = joint'.Or
+joint binary.And = joint'.And
+joint binary.Eq = joint'.Compares op.Eq
+joint binary.Ne = joint'.Compares op.Ne
+joint binary.Lt = joint'.Compares op.Lt
+joint binary.Le = joint'.Compares op.Le
+joint binary.Gt = joint'.Compares op.Gt
+joint binary.Ge = joint'.Compares op.Ge
+joint binary.Add = joint'.Computes op.Add
+joint binary.Sub = joint'.Computes op.Sub
+joint binary.Mul = joint'.Computes op.Mul
+joint binary.Div = joint'.Computes op.Div
+joint binary.Rem = joint'.Computes op.Rem
+
+abbrev pub computed_by : Joint → Option Op
+computed_by (joint'.Computes o) = Some o
+computed_by _ = None
+
 -- those that constant expressions are made of
 abbrev pub arithmetic : BinaryOp → Option Op
-arithmetic binary.Add = Some op.Add
-arithmetic binary.Sub = Some op.Sub
-arithmetic binary.Mul = Some op.Mul
-arithmetic binary.Div = Some op.Div
-arithmetic binary.Rem = Some op.Rem
-arithmetic _ = None
+arithmetic o = computed_by (joint o)
 
 abbrev pub takes : BinaryOp → Ty → Ty → Bool
 takes binary.Eq a b = comparable a b
 takes binary.Ne a b = comparable a b
 takes _ a b = is_int a && is_int b
 
+abbrev pub term_by : Joint → Expression → Expression → Expression
+term_by joint'.Or a b = e.Or a b
+term_by joint'.And a b = e.And a b
+term_by (joint'.Compares o) a b = e.Binary o a b
+term_by (joint'.Computes o) a b = e.Binary o a b
+
 abbrev pub joined_term : BinaryOp → Expression → Expression → Expression
-joined_term binary.Or a b = e.Or a b
-joined_term binary.And a b = e.And a b
-joined_term binary.Eq a b = e.Binary op.Eq a b
-joined_term binary.Ne a b = e.Binary op.Ne a b
-joined_term binary.Lt a b = e.Binary op.Lt a b
-joined_term binary.Le a b = e.Binary op.Le a b
-joined_term binary.Gt a b = e.Binary op.Gt a b
-joined_term binary.Ge a b = e.Binary op.Ge a b
-joined_term binary.Add a b = e.Binary op.Add a b
-joined_term binary.Sub a b = e.Binary op.Sub a b
-joined_term binary.Mul a b = e.Binary op.Mul a b
-joined_term binary.Div a b = e.Binary op.Div a b
-joined_term binary.Rem a b = e.Binary op.Rem a b
+joined_term o a b = term_by (joint o) a b
 
 abbrev pub joined_operands : Context → BinaryOp → Option Operand → Option Operand → Elab Typed
 joined_operands cx o (Some a) (Some b) =

@@ -4,6 +4,7 @@ ghost use Rattle.cc_operators.specs.Operators as spec;
 ghost use Rattle.cc_scopes.specs.Scope.{context};
 
 use crate::folding::{computed, negated_value};
+use crate::joint::Joint;
 use cc_core::Expression;
 use cc_names::{ClassId, StaticRule};
 use cc_ops::Op;
@@ -77,12 +78,8 @@ fn address_rule(ty: Ty, root: Root, is_element: bool) -> Option<StaticRule>
 fn arithmetic(op: BinaryOp) -> Option<Op>
     ensures { result ≡ spec.arithmetic op }
 {
-    match op {
-        BinaryOp::Add => Some(Op::Add),
-        BinaryOp::Sub => Some(Op::Sub),
-        BinaryOp::Mul => Some(Op::Mul),
-        BinaryOp::Div => Some(Op::Div),
-        BinaryOp::Rem => Some(Op::Rem),
+    match Joint::of(op) {
+        Joint::Computes(op) => Some(op),
         _ => None,
     }
 }
@@ -106,20 +103,11 @@ fn joined_term(
 {
     let a = Boxed::new(alloc, a)?;
     let b = Boxed::new(alloc, b)?;
-    Ok(match op {
-        BinaryOp::Or => Expression::Or(a, b),
-        BinaryOp::And => Expression::And(a, b),
-        BinaryOp::Eq => Expression::Binary(Op::Eq, a, b),
-        BinaryOp::Ne => Expression::Binary(Op::Ne, a, b),
-        BinaryOp::Lt => Expression::Binary(Op::Lt, a, b),
-        BinaryOp::Le => Expression::Binary(Op::Le, a, b),
-        BinaryOp::Gt => Expression::Binary(Op::Gt, a, b),
-        BinaryOp::Ge => Expression::Binary(Op::Ge, a, b),
-        BinaryOp::Add => Expression::Binary(Op::Add, a, b),
-        BinaryOp::Sub => Expression::Binary(Op::Sub, a, b),
-        BinaryOp::Mul => Expression::Binary(Op::Mul, a, b),
-        BinaryOp::Div => Expression::Binary(Op::Div, a, b),
-        BinaryOp::Rem => Expression::Binary(Op::Rem, a, b),
+    Ok(match Joint::of(op) {
+        Joint::Or => Expression::Or(a, b),
+        Joint::And => Expression::And(a, b),
+        Joint::Compares(op) => Expression::Binary(op, a, b),
+        Joint::Computes(op) => Expression::Binary(op, a, b),
     })
 }
 

@@ -24,6 +24,7 @@ pub record Context : Type 0 where
   pub in_main : Bool
   pub in_constructor : Bool
   pub in_branch : Bool
+  pub in_loop : Bool
   pub part : ℕ
   pub start : ℕ
   pub line : ℕ
@@ -38,6 +39,7 @@ context s = record {
   in_main = s.in_main;
   in_constructor = s.in_constructor;
   in_branch = s.in_branch;
+  in_loop = s.in_loop;
   part = s.part;
   start = s.start;
   line = s.line;

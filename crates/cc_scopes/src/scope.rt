@@ -32,6 +32,8 @@ pub struct Scope<'a> {
     pub in_constructor: bool,
     /// Whether it is within a `par` or a `parfor`.
     pub in_branch: bool,
+    /// Whether a loop is around it in its parallel part.
+    pub in_loop: bool,
     /// The parallel part.
     pub part: usize,
     /// The number of variables that were in scope where the innermost scope began.

@@ -43,6 +43,7 @@ outside names tables known class line = record {
   in_main = false;
   in_constructor = false;
   in_branch = false;
+  in_loop = false;
   part = 0;
   start = 0;
   line = line;

@@ -28,6 +28,7 @@ pub fn outside<'a>(
         in_main: false,
         in_constructor: false,
         in_branch: false,
+        in_loop: false,
         part: 0,
         start: 0,
         line,

@@ -35,7 +35,8 @@ numbered n line =
     if n == 24 then Rule r.ReturnValue line else
     if n == 25 then Rule r.ParforHeader line else
     if n == 26 then Rule r.Constructor line else
-    Rule r.AtomicBody line
+    if n == 27 then Rule r.AtomicBody line else
+    Rule r.LoopOutside line
 
 its_number : (b : Broken) → numbered (number_of b) (line_of b) ≡ b
 its_number (Rule r.NoMain line) = refl
@@ -60,6 +61,7 @@ its_number (Rule r.ReturnValue line) = refl
 its_number (Rule r.ParforHeader line) = refl
 its_number (Rule r.Constructor line) = refl
 its_number (Rule r.AtomicBody line) = refl
+its_number (Rule r.LoopOutside line) = refl
 its_number (Limit l.Classes line) = refl
 its_number (Limit l.Functions line) = refl
 its_number (Limit l.Members line) = refl

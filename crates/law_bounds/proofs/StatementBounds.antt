@@ -15,7 +15,7 @@ use Rattle.cc_tree.specs.declared.statements.Stmt.{Stmt, out-Stmt}
 use Rattle.cc_tree.specs.declared.statements.StmtKind.TheOpen.{StmtKind-F}
 use Rattle.cc_elaboration.specs.Simple.{no_value, int_value}
 use Rattle.cc_elaboration.specs.Statements as spec
-use Rattle.cc_elaboration.specs.Statements.{inside, branch, at_line, plain_int, names, condition, statements_from, statements, block_of, open_block, body_by, body}
+use Rattle.cc_elaboration.specs.Statements.{inside, branch, repeating, between, at_line, plain_int, names, condition, statements_from, statements, block_of, open_block, body_by, body}
 use Rattle.cc_elaboration.specs.Statements.{if_only, both, if_else, choice, repeated, step, turn, counted, headed, loop_of, part, parts_from, parts, par, no_step, step_if}
 use Rattle.cc_elaboration.specs.Statements.{header_step_by, header_step, header_rest, header, copied, each, iterated, parfor, kind_of, node, statement_to}
 use Rattle.law_depth.specs.Depth.{EachOf, IfSome, StatementLayer, statement_layer, StatementParts, StatementNestsTo}
@@ -66,6 +66,8 @@ module _ (f g : Context → Stmt → Elab Statement) where
   body_by_same (StmtKind-F.If c first other) cx b p q t = p cx t
   body_by_same (StmtKind-F.While c x) cx b p q t = p cx t
   body_by_same (StmtKind-F.For first c after x) cx b p q t = p cx t
+  body_by_same StmtKind-F.Break cx b p q t = p cx t
+  body_by_same StmtKind-F.Continue cx b p q t = p cx t
   body_by_same (StmtKind-F.Par bs) cx b p q t = p cx t
   body_by_same (StmtKind-F.ParFor name start c after x) cx b p q t = p cx t
   body_by_same (StmtKind-F.Spawn e) cx b p q t = p cx t
@@ -91,7 +93,7 @@ module _ (f g : Context → Stmt → Elab Statement) where
 
   repeated_same : (cx : Context) (c : Expr) (b : Stmt) → Same b → (t : State) → repeated f cx c b t ≡ repeated g cx c b t
   unfolding repeated
-  repeated_same cx c b p t = let u = int_value cx c t in ap (λ x. pure (s.While u.0 x.0) x.1) (p cx u.1)
+  repeated_same cx c b p t = let u = int_value cx c t in ap (λ x. pure (s.While u.0 x.0) x.1) (p (repeating cx) u.1)
 
   step_same : (cx : Context) (o : Option Stmt) → IfSome Both o → (t : State) → step f cx o t ≡ step g cx o t
   step_same cx None p t = refl
@@ -99,8 +101,9 @@ module _ (f g : Context → Stmt → Elab Statement) where
 
   turn_same : (cx : Context) (o : Option Stmt) (b : Stmt) → IfSome Both o → Both b → (t : State) → turn f cx o b t ≡ turn g cx o b t
   unfolding turn
-  turn_same cx o b p q t = same_bind (step f cx o) (step g cx o) (λ x. body f cx b >>= (λ y. pure (x, y))) (λ x. body g cx b >>= (λ y. pure (x, y))) t
-      (step_same cx o p t) (λ x u. ap (λ y. pure (x, y.0) y.1) (body_same cx b q u))
+  turn_same cx o b p q t = same_bind (step f (between cx) o) (step g (between cx) o) (λ x. body f (repeating cx) b >>= (λ y. pure (x, y)))
+      (λ x. body g (repeating cx) b >>= (λ y. pure (x, y))) t
+      (step_same (between cx) o p t) (λ x u. ap (λ y. pure (x, y.0) y.1) (body_same (repeating cx) b q u))
 
   counted_same : (cx : Context) (c : Option Expr) (o : Option Stmt) (b : Stmt) → IfSome Both o → Both b → (t : State)
       → counted f cx c o b t ≡ counted g cx c o b t
@@ -152,6 +155,8 @@ module _ (f g : Context → Stmt → Elab Statement) where
   header_step_by_same (StmtKind-F.If c first other) cx name b p t = no_step_same cx b p t
   header_step_by_same (StmtKind-F.While c x) cx name b p t = no_step_same cx b p t
   header_step_by_same (StmtKind-F.For first c after x) cx name b p t = no_step_same cx b p t
+  header_step_by_same StmtKind-F.Break cx name b p t = no_step_same cx b p t
+  header_step_by_same StmtKind-F.Continue cx name b p t = no_step_same cx b p t
   header_step_by_same (StmtKind-F.Par bs) cx name b p t = no_step_same cx b p t
   header_step_by_same (StmtKind-F.ParFor text start c after x) cx name b p t = no_step_same cx b p t
   header_step_by_same (StmtKind-F.Spawn e) cx name b p t = no_step_same cx b p t
@@ -203,6 +208,8 @@ module _ (f g : Context → Stmt → Elab Statement) where
   kind_same (StmtKind-F.If c first other) cx p t = choice_same cx c first other p.1.0 p.2 t
   kind_same (StmtKind-F.While c b) cx p t = repeated_same cx c b p.1.0 t
   kind_same (StmtKind-F.For first c after b) cx p t = loop_of_same cx first c after b (each_first first p.0) p.2 p.3 t
+  kind_same StmtKind-F.Break cx p t = refl
+  kind_same StmtKind-F.Continue cx p t = refl
   kind_same (StmtKind-F.Par bs) cx p t = par_same cx bs (each_first bs p) t
   kind_same (StmtKind-F.ParFor name a c after b) cx p t = parfor_same cx name a c after b p.2.0 p.3 t
   kind_same (StmtKind-F.Spawn e) cx p t = refl
@@ -231,6 +238,8 @@ inside_block e d m le f (StmtKind-F.Print xs) p = tt
 inside_block e d m le f (StmtKind-F.If c first other) p = tt
 inside_block e d m le f (StmtKind-F.While c b) p = tt
 inside_block e d m le f (StmtKind-F.For first c after b) p = tt
+inside_block e d m le f StmtKind-F.Break p = tt
+inside_block e d m le f StmtKind-F.Continue p = tt
 inside_block e d m le f (StmtKind-F.Par bs) p = tt
 inside_block e d m le f (StmtKind-F.ParFor name a c after b) p = tt
 inside_block e d m le f (StmtKind-F.Spawn x) p = tt

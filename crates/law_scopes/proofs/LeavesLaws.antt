@@ -1,6 +1,7 @@
 -- What leaves the variables in scope, and makes none: types, starts, and statements that hold no statement and declare nothing.
 use Rattle.std.proofs.Common.{◌≡◌, ℕ, Bool, true, false, not, List, [], ◌∷◌, Option, Some, None, refl, ◌∙◌}
 use Rattle.cc_core.specs.declared.expression.Expression.{Expression}
+use Rattle.cc_core.specs.declared.statement.Statement.{Statement}
 use Rattle.cc_core.specs.declared.statement.Statement.TheVariants as s
 use Rattle.cc_names.specs.Names.{class_named}
 use Rattle.cc_names.specs.Table.{Name}
@@ -43,7 +44,7 @@ use Rattle.cc_elaboration.specs.Assignments.{operator, combined, term_of, assign
 use Rattle.cc_elaboration.specs.Declarations.{with_value, built_unless, built_as, built, misplaced, misplaced_value, misplaced_args, started_cell, started_object}
 use Rattle.cc_elaboration.specs.Declarations.{cell_start, array_start, object_start, started_by}
 use Rattle.cc_elaboration.specs.Simple.{with_number, term_or_none, dropped, spawned, int_value, call, spawn, printed_value, printed_item, printed_from, share_print, prints_alone, print, note_if}
-use Rattle.cc_elaboration.specs.Simple.{is_void, return_value, return_from_void, return_some, returned, give}
+use Rattle.cc_elaboration.specs.Simple.{is_void, return_value, return_from_void, return_some, returned, give, jump}
 use Rattle.law_scopes.specs.Uses.{names_to, names_in}
 use Rattle.law_scopes.specs.Variables.{TypedNames}
 use Rattle.law_scopes.proofs.Runs.{Anything, always, given, bind, done}
@@ -300,3 +301,7 @@ module _ (cx : Context) where
   pub give_l : (o : Option Expr) → Leaves (give cx o)
   unfolding give
   give_l o = next_l (note_if_l cx.in_branch _) (returned_l o)
+
+  pub jump_l : (x : Statement) → Leaves (jump cx x)
+  unfolding jump
+  jump_l x = next_l (note_if_l (not cx.in_loop) _) (done_l x)

@@ -21,13 +21,13 @@ use Rattle.cc_declared.specs.declared.role.Role.TheVariants as role
 use Rattle.cc_elaboration.specs.Declarations.{made, declaration}
 use Rattle.cc_elaboration.specs.Statements as spec
 use Rattle.cc_elaboration.specs.Simple.{no_value, int_value}
-use Rattle.cc_elaboration.specs.Statements.{inside, branch, at_line, plain_int, names, assigned_value, step_value, condition, statements_from, statements, block_of, open_block, body_by, body}
+use Rattle.cc_elaboration.specs.Statements.{inside, branch, repeating, between, at_line, plain_int, names, assigned_value, step_value, condition, statements_from, statements, block_of, open_block, body_by, body}
 use Rattle.cc_elaboration.specs.Statements.{if_only, both, if_else, choice, repeated, step, turn, counted, headed, loop_of, part, parts_from, parts, par, no_step, step_if}
 use Rattle.cc_elaboration.specs.Statements.{header_step_by, header_step, header_rest, header, copied, each, iterated, parfor, kind_of, node, statement_to, function_body}
 use Rattle.law_scopes.specs.Uses.{names_to}
 use Rattle.law_scopes.specs.Text.{Text, Declares, Copies, declarations, in_expr, in_some, in_all, in_start, declared, in_items, Layer, layer, Matches}
 use Rattle.law_scopes.specs.Text.{in_each, in_maybe, in_body_by, in_body, in_step_if, in_step_by, in_step, in_counter, in_kind, marks_to}
-use Rattle.law_scopes.proofs.LeavesLaws.{Leaves, bind_l, next_l, done_l, block_l, note_l, slot_l, assignment_l, assign_l, started_l, int_value_l, call_l, spawn_l, print_l, give_l}
+use Rattle.law_scopes.proofs.LeavesLaws.{Leaves, bind_l, next_l, done_l, block_l, note_l, slot_l, assignment_l, assign_l, started_l, int_value_l, call_l, spawn_l, print_l, give_l, jump_l}
 use Rattle.law_scopes.proofs.TextLaws.{Walks, more_extends, bind_w, next_w, done_w, gives_w, looking_w, leaves_w, copies_w, declare_w, declare_number, scoped_w}
 use Rattle.law_scopes.proofs.TextLaws.{IsQuiet, quiet_w, quiet_both, quiet_uses, quiet_none}
 
@@ -101,6 +101,8 @@ module _ (stmt : Context → Stmt → Elab Statement) (marks : Stmt → Text →
   body_by_w (StmtKind-F.If c first other) cx b = walks cx b
   body_by_w (StmtKind-F.While c x) cx b = walks cx b
   body_by_w (StmtKind-F.For first c after x) cx b = walks cx b
+  body_by_w StmtKind-F.Break cx b = walks cx b
+  body_by_w StmtKind-F.Continue cx b = walks cx b
   body_by_w (StmtKind-F.Par bs) cx b = walks cx b
   body_by_w (StmtKind-F.ParFor name start c after x) cx b = walks cx b
   body_by_w (StmtKind-F.Spawn e) cx b = walks cx b
@@ -131,7 +133,7 @@ module _ (stmt : Context → Stmt → Elab Statement) (marks : Stmt → Text →
 
   repeated_w : (cx : Context) (c : Expr) (b : Stmt) → Walks (repeated stmt cx c b) (in_kind marks (StmtKind-F.While c b))
   unfolding repeated
-  repeated_w cx c b = bind_w (int_value_w cx c) (λ t. gives_w (walks cx b) (λ x. s.While t x))
+  repeated_w cx c b = bind_w (int_value_w cx c) (λ t. gives_w (walks (repeating cx) b) (λ x. s.While t x))
 
   step_w : (cx : Context) (o : Option Stmt) → Walks (step stmt cx o) (in_maybe marks o)
   step_w cx None = done_w _
@@ -139,7 +141,7 @@ module _ (stmt : Context → Stmt → Elab Statement) (marks : Stmt → Text →
 
   turn_w : (cx : Context) (after : Option Stmt) (b : Stmt) → Walks (turn stmt cx after b) (λ t. in_body marks b (in_maybe marks after t))
   unfolding turn
-  turn_w cx after b = bind_w (step_w cx after) (λ x. gives_w {B = Statement × Statement} (body_w cx b) (λ y. (x, y)))
+  turn_w cx after b = bind_w (step_w (between cx) after) (λ x. gives_w {B = Statement × Statement} (body_w (repeating cx) b) (λ y. (x, y)))
 
   counted_w : (cx : Context) (c : Option Expr) (after : Option Stmt) (b : Stmt)
       → Walks (counted stmt cx c after b) (λ t. in_body marks b (in_maybe marks after (in_some c t)))
@@ -192,6 +194,8 @@ module _ (stmt : Context → Stmt → Elab Statement) (marks : Stmt → Text →
   header_step_by_w (StmtKind-F.If c first other) cx name b = no_step_w cx b
   header_step_by_w (StmtKind-F.While c x) cx name b = no_step_w cx b
   header_step_by_w (StmtKind-F.For first c after x) cx name b = no_step_w cx b
+  header_step_by_w StmtKind-F.Break cx name b = no_step_w cx b
+  header_step_by_w StmtKind-F.Continue cx name b = no_step_w cx b
   header_step_by_w (StmtKind-F.Par bs) cx name b = no_step_w cx b
   header_step_by_w (StmtKind-F.ParFor text start c after x) cx name b = no_step_w cx b
   header_step_by_w (StmtKind-F.Spawn e) cx name b = no_step_w cx b
@@ -266,6 +270,8 @@ module _ (stmt : Context → Stmt → Elab Statement) (marks : Stmt → Text →
   kind_w (StmtKind-F.If c first other) cx = choice_w cx c first other
   kind_w (StmtKind-F.While c b) cx = repeated_w cx c b
   kind_w (StmtKind-F.For first c after b) cx = loop_of_w cx first c after b
+  kind_w StmtKind-F.Break cx = leaves_w (jump_l cx s.Break)
+  kind_w StmtKind-F.Continue cx = leaves_w (jump_l cx s.Continue)
   kind_w (StmtKind-F.Par bs) cx = par_w cx bs
   kind_w (StmtKind-F.ParFor name first c after b) cx = parfor_w cx name first c after b
   kind_w (StmtKind-F.Spawn e) cx = quiet_w (quiet_expr e) (spawn_l cx e)

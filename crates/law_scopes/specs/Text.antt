@@ -133,6 +133,8 @@ module _ (marks : Stmt → Text → Text) where
   in_kind (StmtKind-F.If c first other) before = in_maybe other (marks first (in_expr c before))
   in_kind (StmtKind-F.While c b) before = marks b (in_expr c before)
   in_kind (StmtKind-F.For first c after b) before = Closes ∷ in_body b (in_maybe after (in_some c (in_each first (Opens ∷ before))))
+  in_kind StmtKind-F.Break before = before
+  in_kind StmtKind-F.Continue before = before
   in_kind (StmtKind-F.Par bs) before = in_each bs before
   in_kind (StmtKind-F.ParFor name start c after b) before = Closes ∷ in_counter name start c after b (Opens ∷ before)
   in_kind (StmtKind-F.Spawn e) before = in_expr e before

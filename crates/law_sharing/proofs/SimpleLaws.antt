@@ -5,6 +5,7 @@ use Rattle.cc_core.specs.declared.expression.Constant.TheVariants as constant
 use Rattle.cc_core.specs.declared.expression.Expression.TheVariants as e
 use Rattle.cc_core.specs.declared.expression.Expression.{Expression}
 use Rattle.cc_core.specs.declared.expression.PrintPart.{PrintPart}
+use Rattle.cc_core.specs.declared.statement.Statement.{Statement}
 use Rattle.cc_core.specs.declared.statement.Statement.TheVariants as s
 use Rattle.cc_elaboration.specs.Assignments.{operator, combined, term_of, combined_value, value_by, assigned, assignment_to, no_assignment}
 use Rattle.cc_elaboration.specs.Assignments.{assignment_at, assignment, stored, assign}
@@ -13,7 +14,7 @@ use Rattle.cc_elaboration.specs.Declarations.{started_object}
 use Rattle.cc_elaboration.specs.Declarations.{cell_start, array_start, object_start, started_by, made, declaration}
 use Rattle.cc_elaboration.specs.Simple.{term_or_none, int_value, dropped, call, spawned, spawn, with_number, printed_value}
 use Rattle.cc_elaboration.specs.Simple.{printed_item, printed_from, share_print, prints_alone, print, note_if, is_void, return_value}
-use Rattle.cc_elaboration.specs.Simple.{return_from_void, return_some, return_nothing, returned, give}
+use Rattle.cc_elaboration.specs.Simple.{return_from_void, return_some, return_nothing, returned, give, jump}
 use Rattle.cc_scopes.specs.Typed.{note_rule}
 use Rattle.cc_names.specs.declared.declarations.ClassId.{ClassId}
 use Rattle.cc_names.specs.declared.rule.StaticRule.{StaticRule}
@@ -248,3 +249,7 @@ module _ (cx : Context) where
   pub give_leaves : (o : Option Expr) → Leaves cx.line (give cx o)
   unfolding give
   give_leaves o = next (note_if_leaves cx.in_branch _) (returned_leaves o)
+
+  pub jump_leaves : (x : Statement) → Leaves cx.line (jump cx x)
+  unfolding jump
+  jump_leaves x = next (note_if_leaves (not cx.in_loop) _) (done x)

@@ -7,7 +7,7 @@ use Rattle.cc_core.specs.declared.expression.Expression.TheVariants as e
 use Rattle.cc_core.specs.declared.statement.Statement.{Statement}
 use Rattle.cc_core.specs.declared.statement.Statement.TheVariants as s
 use Rattle.cc_elaboration.specs.Simple.{no_value, print}
-use Rattle.cc_elaboration.specs.Statements.{inside, branch, at_line, plain_int, assigned_value, names, step_value, condition, statements_from}
+use Rattle.cc_elaboration.specs.Statements.{inside, branch, repeating, between, at_line, plain_int, assigned_value, names, step_value, condition, statements_from}
 use Rattle.cc_elaboration.specs.Statements.{statements, block_of, open_block}
 use Rattle.cc_elaboration.specs.Statements as elaborated
 use Rattle.cc_elaboration.specs.Statements.{if_only, both, if_else, repeated, step, turn, counted, headed, loop_of, part, parts_from, parts, par}
@@ -29,7 +29,7 @@ use Rattle.law_sharing.proofs.Leaves.{next, done}
 use Rattle.law_sharing.proofs.Adds.{Adds, leaves_adds, bind_a, skip, skip_n, last, last_n, done_a, looking_a, block_a, leave_a, bring_a, declare_a}
 use Rattle.law_sharing.proofs.ScopeLaws.{note_rule_leaves}
 use Rattle.law_sharing.proofs.SimpleLaws.{assignment_a, assign_a, declaration_a, int_value_leaves, call_statement_leaves, spawn_leaves, print_a}
-use Rattle.law_sharing.proofs.SimpleLaws.{give_leaves}
+use Rattle.law_sharing.proofs.SimpleLaws.{give_leaves, jump_leaves}
 
 -- an assignment
 abbrev IsAssignment : Stmt → Type 0
@@ -77,6 +77,8 @@ module _ (main : Bool) (stmt : Context → Stmt → Elab Statement) (said : (bra
   body_by_a cx is (StmtKind-F.If c first other) b = reads cx is b
   body_by_a cx is (StmtKind-F.While c x) b = reads cx is b
   body_by_a cx is (StmtKind-F.For first c after x) b = reads cx is b
+  body_by_a cx is StmtKind-F.Break b = reads cx is b
+  body_by_a cx is StmtKind-F.Continue b = reads cx is b
   body_by_a cx is (StmtKind-F.Par bs) b = reads cx is b
   body_by_a cx is (StmtKind-F.ParFor text start c after x) b = reads cx is b
   body_by_a cx is (StmtKind-F.Spawn e) b = reads cx is b
@@ -107,7 +109,7 @@ module _ (main : Bool) (stmt : Context → Stmt → Elab Statement) (said : (bra
 
   repeated_a : (cx : Context) → cx.in_main ≡ main → (c : Expr) (b : Stmt) → Adds (said cx.in_branch b) (repeated stmt cx c b)
   unfolding repeated
-  repeated_a cx is c b = skip (leaves_adds (int_value_leaves cx c)) (λ t. last (reads cx is b) (λ x. done_a (s.While t x)))
+  repeated_a cx is c b = skip (leaves_adds (int_value_leaves cx c)) (λ t. last (reads (repeating cx) is b) (λ x. done_a (s.While t x)))
 
   step_a : (cx : Context) → cx.in_main ≡ main → (o : Option Stmt) → Adds (optional main said cx.in_branch o) (step stmt cx o)
   step_a cx is None = done_a s.Empty
@@ -116,7 +118,7 @@ module _ (main : Bool) (stmt : Context → Stmt → Elab Statement) (said : (bra
   turn_a : (cx : Context) → cx.in_main ≡ main → (o : Option Stmt) (b : Stmt)
       → Adds (optional main said cx.in_branch o ++ body main said cx.in_branch b) (turn stmt cx o b)
   unfolding turn
-  turn_a cx is o b = bind_a (step_a cx is o) (λ x. last (body_a cx is b) (λ y. done_a (x, y)))
+  turn_a cx is o b = bind_a (step_a (between cx) is o) (λ x. last (body_a (repeating cx) is b) (λ y. done_a (x, y)))
 
   counted_a : (cx : Context) → cx.in_main ≡ main → (c : Option Expr) (o : Option Stmt) (b : Stmt)
       → Adds (optional main said cx.in_branch o ++ body main said cx.in_branch b) (counted stmt cx c o b)
@@ -177,6 +179,8 @@ module _ (main : Bool) (stmt : Context → Stmt → Elab Statement) (said : (bra
   header_step_by_a cx is (StmtKind-F.If c first other) name b has = no_step_a cx is b
   header_step_by_a cx is (StmtKind-F.While c x) name b has = no_step_a cx is b
   header_step_by_a cx is (StmtKind-F.For first c after x) name b has = no_step_a cx is b
+  header_step_by_a cx is StmtKind-F.Break name b has = no_step_a cx is b
+  header_step_by_a cx is StmtKind-F.Continue name b has = no_step_a cx is b
   header_step_by_a cx is (StmtKind-F.Par bs) name b has = no_step_a cx is b
   header_step_by_a cx is (StmtKind-F.ParFor text start c after x) name b has = no_step_a cx is b
   header_step_by_a cx is (StmtKind-F.Spawn e) name b has = no_step_a cx is b
@@ -236,6 +240,8 @@ module _ (main : Bool) (stmt : Context → Stmt → Elab Statement) (said : (bra
   kind_a cx is (StmtKind-F.If c first other) = choice_a cx is c first other
   kind_a cx is (StmtKind-F.While c b) = repeated_a cx is c b
   kind_a cx is (StmtKind-F.For first c after b) = loop_of_a cx is first c after b
+  kind_a cx is StmtKind-F.Break = leaves_adds (jump_leaves cx s.Break)
+  kind_a cx is StmtKind-F.Continue = leaves_adds (jump_leaves cx s.Continue)
   kind_a cx is (StmtKind-F.Par bs) = par_a cx is bs
   kind_a cx is (StmtKind-F.ParFor name start c after b) = parfor_a cx is name start c after b
   kind_a cx is (StmtKind-F.Spawn e) = leaves_adds (spawn_leaves cx e)
