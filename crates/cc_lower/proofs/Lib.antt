@@ -1,7 +1,6 @@
 pub mod CopyLaws
 pub mod Views
 pub mod Pieces
-pub mod Plain
 pub mod EmittedLaws
 pub mod ProgramLaws
 pub mod OneFunction

@@ -1,4 +1,4 @@
--- One pass makes the layout of a whole program.
+-- The code that is made is the layout of a whole program.
 use Rattle.std.proofs.Common.{◌≡◌, ℕ, suc, ◌<◌, List, [], ◌∷◌, ◌++◌, length, map, get_or, false, refl, sym, ap, ◌∙◌, subst, arith, append_assoc, append-nil}
 use Rattle.cc_ops.specs.Classes.{ClassShape}
 use Rattle.cc_ops.specs.declared.shape.FunShape.{FunShape}
@@ -18,7 +18,6 @@ use Rattle.cc_follows.proofs.Lays.{after, ends, stmts_end}
 use Rattle.stack_code.specs.View.{empty_code, with_function}
 use Rattle.cc_lower.specs.Emitted.{put, here, emitted_stmts, emitted_function, emitted_functions, emitted_classes, with_shape}
 use Rattle.cc_lower.proofs.Pieces.{behind, regroup, here_behind, last}
-use Rattle.cc_lower.proofs.Plain.{ArePlain, statements_plain}
 use Rattle.cc_lower.proofs.EmittedLaws.{stmts_is}
 
 -- the code with these functions behind it
@@ -34,17 +33,17 @@ code_by classes places entries functions = record { places = places; entries = e
 
 abbrev Sources : Shapes → List Function → Type 0
 Sources h [] = Unit {0}
-Sources h (f ∷ fs) = AreStmts h false f.body × ArePlain f.body × Sources h fs
+Sources h (f ∷ fs) = AreStmts h false f.body × Sources h fs
 
 module _ (h : Shapes) where
-  function_is : (f : Function) (c : Code) → AreStmts h false f.body → ArePlain f.body → emitted_function c f ≡ behind (with_function c f.shape) (code_function (here c) f)
-  function_is f c s p =
+  function_is : (f : Function) (c : Code) → AreStmts h false f.body → emitted_function c f ≡ behind (with_function c f.shape) (code_function (here c) f)
+  function_is f c s =
       let d = with_function c f.shape in
       let line = f.shape.line in
       let body = code_stmts line NoLoop (here c) f.body in
-      let ended = put (emitted_stmts d line f.body) line (PushI f.default) in
+      let ended = put (emitted_stmts d line NoLoop f.body) line (PushI f.default) in
       last d ended (body ++ placed line (PushI f.default)) line RetI
-      (last d (emitted_stmts d line f.body) body line (PushI f.default) (stmts_is h line NoLoop f.body d s p))
+      (last d (emitted_stmts d line NoLoop f.body) body line (PushI f.default) (stmts_is h line NoLoop f.body d s))
       ∙ regroup d body (placed line (PushI f.default)) (placed line RetI)
 
   function_end : (f : Function) (b : ℕ) → AreStmts h false f.body → after b (code_function b f) ≡ end_function b f
@@ -63,8 +62,8 @@ module _ (h : Shapes) where
       let rest = code_functions (end_function b f) fs in
       let starts = entries (end_function b f) fs in
       let names = map (λ (g : Function). g.shape) fs in
-      functions_are fs (emitted_function c f) s.2
-      ∙ (ap (λ x. with_functions x fs) (function_is f c s.0 s.1)
+      functions_are fs (emitted_function c f) s.1
+      ∙ (ap (λ x. with_functions x fs) (function_is f c s.0)
       ∙ (ap (λ (m : ℕ). code_by c.shapes.classes ((c.places ++ cf) ++ code_functions m fs) ((c.entries ++ b ∷ []) ++ entries m fs)
       ((c.shapes.functions ++ f.shape ∷ []) ++ names)) at
       ∙ (ap (λ l. code_by c.shapes.classes l ((c.entries ++ b ∷ []) ++ starts) ((c.shapes.functions ++ f.shape ∷ []) ++ names)) (append_assoc c.places cf rest)
@@ -73,7 +72,7 @@ module _ (h : Shapes) where
 
   sources_of : (fs : List TextFunction) → ((k : ℕ) → k < length (map function_of fs) → AreStmts h false (get_or (map function_of fs) k no_function).body) → Sources h (map function_of fs)
   sources_of [] s = tt
-  sources_of (f ∷ fs) s = (s 0 (omega arith), statements_plain f.body, sources_of fs (λ k lt. s (suc k) (omega arith)))
+  sources_of (f ∷ fs) s = (s 0 (omega arith), sources_of fs (λ k lt. s (suc k) (omega arith)))
 
 classes_are : (ks : List ClassShape) (c : Code) → emitted_classes c ks ≡ record { places = c.places; entries = c.entries; shapes = record { functions = c.shapes.functions; classes = c.shapes.classes ++ ks } }
 classes_are [] c =
@@ -88,7 +87,7 @@ lowered_is p s =
     ap (λ c. emitted_functions c fs) (classes_are (map shape_of p.classes) empty_code)
     ∙ functions_are (shapes (program_of p)) fs (code_by (map shape_of p.classes) [] [] []) (sources_of (shapes (program_of p)) p.functions s)
 
--- the code that one pass makes is the layout, and is valid
+-- the code that is made is the layout, and is valid
 pub made_is : (p : TextProgram) (new middle made : Code) (ks : List ClassShape') (fs : List TextFunction) → IsProgram (program_of p)
     → new ≡ empty_code → middle ≡ emitted_classes new (map shape_of ks) → ks ≡ p.classes
     → made ≡ emitted_functions middle (map function_of fs) → fs ≡ p.functions → made ≡ layout (program_of p)

@@ -18,7 +18,7 @@ use std::alloc::{AllocError, Global};
 
 /// The code of a program: its layout, which is valid. The only refusal is want of memory.
 ///
-/// It is made in one pass, in time that grows with the program's length alone.
+/// Each loop is measured before its body is made, so a part is measured once for each loop around it.
 pub fn lower(alloc: Global, program: &Program) -> Result<Code, AllocError>
     requires { IsLowerable program.now }
     ensures { IfOk result (λ code. code_of code ≡ layout (program_of program.now)) }
@@ -72,7 +72,7 @@ fn put_function(alloc: Global, maker: &mut CodeMaker, function: &Function) -> Re
     let line = function.shape.line;
     let shape = copy_function(alloc, &function.shape)?;
     maker.function(shape)?;
-    statements(alloc, maker, line, function.body.as_slice())?;
+    statements(alloc, maker, line, None, function.body.as_slice())?;
     put(maker, line, Instr::Push(function.default))?;
     put(maker, line, Instr::Ret)
 }

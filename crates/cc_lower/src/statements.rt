@@ -3,10 +3,14 @@ ghost use Rattle.cc_core.specs.Core.{If, While, Par, ParFor};
 ghost use Rattle.cc_core.specs.View.{term_of, terms_of, stmt_of, stmts_of};
 ghost use Rattle.cc_code.specs.Code.{TestI, ForkI};
 ghost use Rattle.stack_code.specs.View.{code_of, instr_of};
+ghost use Rattle.cc_code.specs.Layout.{NoLoop};
+ghost use Rattle.cc_lower.specs.Exits.{loop_of};
 ghost use Rattle.cc_lower.specs.Emitted.{put, here, count, emitted_term, emitted_terms, emitted_stmt, emitted_stmts, emitted_branches, emitted_start, emitted_step, emitted_header, HasFunction};
 
 use crate::copies::copy_parts;
+use crate::ends::next;
 use crate::expressions::{aim_here, expression, expressions, put, put_open, spawn, store};
+use crate::loops::{Exits, put_break, put_continue, put_for_test, put_while_test};
 use cc_core::{Expression, Statement};
 use cc_ops::Kind;
 use ccpp_edge::List;
@@ -72,22 +76,23 @@ fn put_test(maker: &mut CodeMaker, line: u32, test: &Expression) -> Result<u32, 
     put_open(maker, line, Instr::Test(0))
 }
 
-/// Appends the instructions of a statement.
+/// Appends the instructions of a statement in the loop with these exits, or in none.
 #[cycle(statement)]
 #[tactic(auto, using(crate::proofs::Views::statements))]
 pub(crate) fn statement(
     alloc: Global,
     maker: &mut CodeMaker,
     line: u32,
+    exits: Option<Exits>,
     s: &Statement,
 ) -> Result<(), AllocError>
     requires { HasFunction (code_of maker.old) }
     ensures begun { HasFunction (code_of maker.new) }
-    ensures lowered { OnOk result (code_of maker.new ≡ emitted_stmt (code_of maker.old) line (stmt_of s.now)) }
+    ensures lowered { OnOk result (code_of maker.new ≡ emitted_stmt (code_of maker.old) line (loop_of exits) (stmt_of s.now)) }
 {
     match s {
         Statement::Empty => Ok(()),
-        Statement::AtLine(line, body) => statement(alloc, maker, *line, body.get()),
+        Statement::AtLine(line, body) => statement(alloc, maker, *line, exits, body.get()),
         Statement::Make(var, kind, count) => {
             let instr = Instr::Make {
                 var: *var,
@@ -118,26 +123,26 @@ pub(crate) fn statement(
             let parts = copy_parts(alloc, parts.as_slice())?;
             put_behind_all(maker, line, es.as_slice(), Instr::Print(parts))
         }
-        Statement::If(test, body) => if_then(alloc, maker, line, body.get(), test),
+        Statement::If(test, body) => if_then(alloc, maker, line, exits, body.get(), test),
         Statement::IfElse(test, first, second) => {
             let test = put_test(maker, line, test)?;
-            statement(alloc, maker, line, first.get())?;
+            statement(alloc, maker, line, exits, first.get())?;
             let jump = put_open(maker, line, Instr::Jump(0))?;
             aim_here(maker, test);
-            statement(alloc, maker, line, second.get())?;
+            statement(alloc, maker, line, exits, second.get())?;
             aim_here(maker, jump);
             Ok(())
         }
         Statement::While(test, body) => while_loop(alloc, maker, line, body.get(), test),
         Statement::For(test, step, body) => {
             let start = maker.len();
-            let test = put_test(maker, line, test)?;
-            statement(alloc, maker, line, body.get())?;
-            statement(alloc, maker, line, step.get())?;
-            put(maker, line, Instr::Jump(start))?;
-            aim_here(maker, test);
-            Ok(())
+            let exits = put_for_test(maker, line, test, step.get(), body.get())?;
+            statement(alloc, maker, line, Some(exits), body.get())?;
+            statement(alloc, maker, line, None, step.get())?;
+            put(maker, line, Instr::Jump(start))
         }
+        Statement::Break => put_break(maker, line, exits),
+        Statement::Continue => put_continue(maker, line, exits),
         Statement::Par(branches) => parallel(alloc, maker, line, branches.as_slice()),
         Statement::ParFor(var, start, test, step_line, value, body) => {
             let header = Header {
@@ -153,24 +158,25 @@ pub(crate) fn statement(
             put_behind_all(maker, line, arguments.as_slice(), spawn(*how, *function))
         }
         Statement::Return(e) => put_behind(maker, line, e, Instr::Ret),
-        Statement::Block(body) => statements(alloc, maker, line, body.as_slice()),
+        Statement::Block(body) => statements(alloc, maker, line, exits, body.as_slice()),
     }
 }
 
-/// Appends the instructions of several statements.
+/// Appends the instructions of several statements in the loop with these exits, or in none.
 #[cycle(statement)]
 pub(crate) fn statements(
     alloc: Global,
     maker: &mut CodeMaker,
     line: u32,
+    exits: Option<Exits>,
     body: &[Statement],
 ) -> Result<(), AllocError>
     requires { HasFunction (code_of maker.old) }
     ensures begun { HasFunction (code_of maker.new) }
-    ensures lowered { OnOk result (code_of maker.new ≡ emitted_stmts (code_of maker.old) line (stmts_of body.now)) }
+    ensures lowered { OnOk result (code_of maker.new ≡ emitted_stmts (code_of maker.old) line (loop_of exits) (stmts_of body.now)) }
 {
     for s in body {
-        statement(alloc, maker, line, s)?;
+        statement(alloc, maker, line, exits, s)?;
     }
     Ok(())
 }
@@ -180,15 +186,16 @@ fn if_then(
     alloc: Global,
     maker: &mut CodeMaker,
     line: u32,
+    exits: Option<Exits>,
     body: &Statement,
     test: &Expression,
 ) -> Result<(), AllocError>
     requires { HasFunction (code_of maker.old) }
     ensures begun { HasFunction (code_of maker.new) }
-    ensures lowered { OnOk result (code_of maker.new ≡ emitted_stmt (code_of maker.old) line (If (term_of test.now) (stmt_of body.now))) }
+    ensures lowered { OnOk result (code_of maker.new ≡ emitted_stmt (code_of maker.old) line (loop_of exits) (If (term_of test.now) (stmt_of body.now))) }
 {
     let test = put_test(maker, line, test)?;
-    statement(alloc, maker, line, body)?;
+    statement(alloc, maker, line, exits, body)?;
     aim_here(maker, test);
     Ok(())
 }
@@ -203,14 +210,13 @@ fn while_loop(
 ) -> Result<(), AllocError>
     requires { HasFunction (code_of maker.old) }
     ensures begun { HasFunction (code_of maker.new) }
-    ensures lowered { OnOk result (code_of maker.new ≡ emitted_stmt (code_of maker.old) line (While (term_of test.now) (stmt_of body.now))) }
+    ensures lowered { OnOk result (code_of maker.new ≡ emitted_stmt (code_of maker.old) line NoLoop (While (term_of test.now) (stmt_of body.now))) }
 {
-    let start = maker.len();
-    let test = put_test(maker, line, test)?;
-    statement(alloc, maker, line, body)?;
-    put(maker, line, Instr::Jump(start))?;
-    aim_here(maker, test);
-    Ok(())
+    let again = maker.len();
+    let out = put_while_test(maker, line, test, body)?;
+    let exits = Exits { out, again };
+    statement(alloc, maker, line, Some(exits), body)?;
+    put(maker, line, Instr::Jump(again))
 }
 
 #[cycle(statement)]
@@ -222,7 +228,7 @@ fn parallel(
 ) -> Result<(), AllocError>
     requires { HasFunction (code_of maker.old) }
     ensures begun { HasFunction (code_of maker.new) }
-    ensures lowered { OnOk result (code_of maker.new ≡ emitted_stmt (code_of maker.old) line (Par (stmts_of branches.now))) }
+    ensures lowered { OnOk result (code_of maker.new ≡ emitted_stmt (code_of maker.old) line NoLoop (Par (stmts_of branches.now))) }
 {
     let fork = put_fork(alloc, maker, line, branches)?;
     let jump = put_open(maker, line, Instr::Jump(0))?;
@@ -265,17 +271,11 @@ fn put_branches(
     for branch in branches {
         let here = maker.len();
         maker.aim(fork, which, here);
-        statement(alloc, maker, 0, branch)?;
+        statement(alloc, maker, 0, None, branch)?;
         put(maker, line, Instr::End)?;
-        which = next_number(which)?;
+        which = next(which)?;
     }
     Ok(())
-}
-
-fn next_number(number: u32) -> Result<u32, AllocError>
-    ensures { IfOk result (λ next. next ≡ number + 1) }
-{
-    number.checked_add(1).ok_or(AllocError)
 }
 
 /// What a `parfor` has but its body.
@@ -335,11 +335,11 @@ fn parallel_for(
 ) -> Result<(), AllocError>
     requires { HasFunction (code_of maker.old) }
     ensures begun { HasFunction (code_of maker.new) }
-    ensures lowered { OnOk result (code_of maker.new ≡ emitted_stmt (code_of maker.old) line
+    ensures lowered { OnOk result (code_of maker.new ≡ emitted_stmt (code_of maker.old) line NoLoop
         (ParFor header.entry.var (term_of header.entry.start.now) (term_of header.entry.test.now) header.entry.line (term_of header.entry.value.now) (stmt_of body.now))) }
 {
     let test = put_header(maker, line, header)?;
-    statement(alloc, maker, 0, body)?;
+    statement(alloc, maker, 0, None, body)?;
     put(maker, line, Instr::End)?;
     aim_here(maker, test);
     put(maker, line, Instr::Join)
