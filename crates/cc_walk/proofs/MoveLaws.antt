@@ -48,7 +48,7 @@ asks_nothing h (look.Ends v) never m looks line q asks = absurd (cc)
 asks_nothing h look.Stuck never m looks line q asks = absurd (cc)
 
 module _ (w : Machine) (t : ThreadNo) where
-  decided : (r : Runner) (line : ℕ) (q : Ask Address) (k : Answer Address → Then Address) (v : Verdict)
+  decided : (r : Runner) (line : ℕ) (q : Ask Address) (k : Answer Address → Then Address) (v : Verdict Address)
       → may_move (decide w t r line q k v) ≡ not (is_hold v)
   decided r line q k (Go found) = refl
   decided r line q k Hold = refl

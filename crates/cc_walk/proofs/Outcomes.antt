@@ -103,19 +103,19 @@ faults_follow {kind} {line} {after} p w s n st t is = follows p w s n st t (step
 
 -- ---- by what is answered
 
-pub holds : (v : Verdict) → is_hold v ≡ true → v ≡ Hold
+pub holds : (v : Verdict Address) → is_hold v ≡ true → v ≡ Hold
 holds (Go found) is = absurd (cc)
 holds Hold is = refl
 holds (Bad kind) is = absurd (cc)
 
 module _ (w : Machine) (q : ℕ) (r : Runner) (ask : Ask Address) (shelves : List Shelf) (output : List ℕ) where
-  pub goes_on : (v : Verdict) → is_hold v ≡ false → (e : Effect) → Answers w q r ask v (Ok e) shelves output
+  pub goes_on : (v : Verdict Address) → is_hold v ≡ false → (e : Effect) → Answers w q r ask v (Ok e) shelves output
       → (found : Values) × (v ≡ Go found) × HasEffect w q r ask found e shelves output
   goes_on (Go found) is e has = (found, refl, has)
   goes_on Hold is e has = absurd (cc)
   goes_on (Bad kind) is e has = absurd has
 
-  pub stops : (v : Verdict) → is_hold v ≡ false → (kind : FaultKind) → Answers w q r ask v (Err (stop.Fault kind)) shelves output
+  pub stops : (v : Verdict Address) → is_hold v ≡ false → (kind : FaultKind) → Answers w q r ask v (Err (stop.Fault kind)) shelves output
       → (v ≡ Bad kind) × (shelves ≡ w.shelves) × (output ≡ w.output)
   stops (Go found) is kind same = absurd same
   stops Hold is kind same = absurd (cc)

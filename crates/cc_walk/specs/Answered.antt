@@ -56,7 +56,7 @@ module _ (w : Machine) (q : ℕ) (r : Runner) (ask : Ask Address) where
     pub processors : e.processors ≡ (effect w q r ask found).processors
 
   -- Nothing is said where the thread has to wait, and after want of memory. A fault changes nothing.
-  abbrev pub Answers : Verdict → Result Effect Stop → List Shelf → List ℕ → Type 0
+  abbrev pub Answers : Verdict Address → Result Effect Stop → List Shelf → List ℕ → Type 0
   Answers (Go found) (Ok e) shelves output = HasEffect found e shelves output
   Answers (Bad kind) (Err (stop.Fault k)) shelves output = (k ≡ kind) × (shelves ≡ w.shelves) × (output ≡ w.output)
   Answers Hold result shelves output = Unit {0}

@@ -30,7 +30,7 @@ AnswersAsk a ask old result new =
     (output : List ℕ) → IsAnswered (machine_with a old output) a.processor (runner_of a.live.now) ask result new output
 
 -- a need that finds no value is met, or is a fault
-abbrev pub IsMet : Verdict → Result (Unit {0}) FaultKind → Type 0
+abbrev pub IsMet : Verdict Address → Result (Unit {0}) FaultKind → Type 0
 IsMet verdict (Ok done) = verdict ≡ Go []
 IsMet verdict (Err kind) = verdict ≡ Bad kind
 

@@ -39,7 +39,7 @@ module _ (h q : ℕ) (m : Mesh) (shelves : List Shelf) (spots : List (List Spot)
   slots_alike : q ≡ h → slots_in m.shelves q ≡ slots_in shelves q
   slots_alike e = ap (λ o. option_map_or (λ (s : Shelf). s.slots) o 0) (ap (slice_get m.shelves) e ∙ (shelf ∙ ap (slice_get shelves) (sym e)))
 
-  abbrev AnswersNeed : Need → Type 0
+  abbrev AnswersNeed : Need Address → Type 0
   AnswersNeed need = check (shown m (counted m.spots)) q (runs f None []) need ≡ check (shown other (counted spots)) q (runs f None []) need
 
   filled : (a : Value Address) → IsOn h a → AnswersNeed (Filled a)
@@ -67,19 +67,19 @@ module _ (h q : ℕ) (m : Mesh) (shelves : List Shelf) (spots : List (List Spot)
   free g (Ptr a x) on =
       ap (λ o. if (function_shape m.code.shapes g).atomic && option_map_or (λ (t : Thing). t.held) o false then Hold else Go []) (thing_alike a on)
 
-  abbrev AnswersAll : List Need → Type 0
+  abbrev AnswersAll : List (Need Address) → Type 0
   AnswersAll ns = check_all (shown m (counted m.spots)) q (runs f None []) ns ≡ check_all (shown other (counted spots)) q (runs f None []) ns
 
-  both : (need : Need) (ns : List Need) → AnswersNeed need → AnswersAll ns → AnswersAll (need ∷ ns)
+  both : (need : Need Address) (ns : List (Need Address)) → AnswersNeed need → AnswersAll ns → AnswersAll (need ∷ ns)
   both need ns a b =
       ap (λ z. and_also z (check_all (shown m (counted m.spots)) q (runs f None []) ns)) a
       ∙ ap (λ z. and_also (check (shown other (counted spots)) q (runs f None []) need) z) b
 
-  abbrev AnswersEach : List Need → Type 0
+  abbrev AnswersEach : List (Need Address) → Type 0
   AnswersEach [] = Unit {0}
   AnswersEach (need ∷ ns) = AnswersNeed need × AnswersEach ns
 
-  all : (ns : List Need) → AnswersEach ns → AnswersAll ns
+  all : (ns : List (Need Address)) → AnswersEach ns → AnswersAll ns
   all [] h = refl
   all (need ∷ ns) h = both need ns h.0 (all ns h.1)
 

@@ -76,7 +76,7 @@ module _ (m : Mesh) (threads : List (List Progress)) (shows : Shows m threads) w
 
   pub decided : (t : ThreadNo) (f : Fiber) (kids : List ThreadNo) (line : ℕ) (ask : Ask Address) (k : Answer Address → Then Address)
       → move m.code f.thread ≡ Does line ask k → thread_in threads t ≡ Some (Goes (runs f None kids))
-      → (v : Verdict) → check_all (shown m threads) t.processor (runs f None kids) (needs m.code.shapes ask) ≡ v
+      → (v : Verdict Address) → check_all (shown m threads) t.processor (runs f None kids) (needs m.code.shapes ask) ≡ v
       → step (shown m threads) t ≡ decide (shown m threads) t (runs f None kids) line ask k v
   decided t f kids line ask k asks at v e =
       step_is (shown m threads) t (Goes (runs f None kids)) at
@@ -88,7 +88,7 @@ module _ (m : Mesh) (threads : List (List Progress)) (shows : Shows m threads) w
     goes : thread_in threads t ≡ Some (Goes (runs f None at.kids))
     goes = there ∙ ap (λ y. Some y) at.is
 
-    agrees : (v : Verdict) → verdict m t.processor f ask ≡ v → Agrees v (check_all (shown m threads) t.processor (runs f None at.kids) (needs m.code.shapes ask))
+    agrees : (v : Verdict Address) → verdict m t.processor f ask ≡ v → Agrees v (check_all (shown m threads) t.processor (runs f None at.kids) (needs m.code.shapes ask))
     agrees v e = subst (λ u. Agrees u (check_all (shown m threads) t.processor (runs f None at.kids) (needs m.code.shapes ask))) e
         (verdict_alike m threads shows t.processor f at.kids at.same ask)
 

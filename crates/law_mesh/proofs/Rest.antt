@@ -42,7 +42,7 @@ module _ (m : Mesh) (threads : List (List Progress)) (shows : Shows m threads) w
         (ap (λ b. and_also (Go []) (and_also (if b && is_held m.shelves (Ptr o i) then Hold else Go []) (rest g))) atomic
         ∙ ap (λ b. and_also (Go []) (and_also (if b then Hold else Go []) (rest g))) held)
       where
-        rest : ℕ → Verdict
+        rest : ℕ → Verdict Address
         rest g = check_all (shown m threads) t.processor (runs f None at.kids) (Deeper ∷ Slots (arity (function_shape m.code.shapes g).params) ∷ [])
 
   module _ (order : InOrder m) (idle : IsIdle m) where

@@ -22,17 +22,17 @@ use Rattle.law_mesh.specs.Shows.{IsKid, Alike, Shows}
 use Rattle.law_mesh.proofs.Lists.{item_right, same_made, same_counted}
 
 -- what is found, or the fault, is that; where a thread waits nothing is said
-abbrev pub Agrees : Verdict → Verdict → Type 0
+abbrev pub Agrees : Verdict Address → Verdict Address → Type 0
 Agrees (Go vs) v = v ≡ Go vs
 Agrees Hold v = Unit {0}
 Agrees (Bad kind) v = v ≡ Bad kind
 
-same_agrees : (u v : Verdict) → u ≡ v → Agrees u v
+same_agrees : (u v : Verdict Address) → u ≡ v → Agrees u v
 same_agrees (Go vs) v e = sym e
 same_agrees Hold v e = tt
 same_agrees (Bad kind) v e = sym e
 
-abbrev NoneDone : List Need → Type 0
+abbrev NoneDone : List (Need Address) → Type 0
 NoneDone [] = Unit {0}
 NoneDone (Done made ∷ more) = ⊥
 NoneDone (need ∷ more) = NoneDone more
@@ -41,7 +41,7 @@ module _ (m : Mesh) (threads : List (List Progress)) (shows : Shows m threads) (
   made_alike : (h : ℕ) → made_in (counted m.spots) h ≡ made_in threads h
   made_alike h = same_counted m.spots h ∙ same_made (Alike m.code threads) m.spots threads shows h
 
-  check_alike : (need : Need) → NoneDone (need ∷ []) → check (shown m (counted m.spots)) q (runs f None []) need ≡ check (shown m threads) q (runs f None kids) need
+  check_alike : (need : Need Address) → NoneDone (need ∷ []) → check (shown m (counted m.spots)) q (runs f None []) need ≡ check (shown m threads) q (runs f None kids) need
   check_alike (Known result) h = refl
   check_alike (Filled a) h = refl
   check_alike (Unfilled a) h = refl
@@ -57,10 +57,10 @@ module _ (m : Mesh) (threads : List (List Progress)) (shows : Shows m threads) (
   check_alike Processor h = refl
   check_alike (Constructs c vs) h = refl
 
-  two_alike : (u v x y : Verdict) → u ≡ v → x ≡ y → and_also u x ≡ and_also v y
+  two_alike : (u v x y : Verdict Address) → u ≡ v → x ≡ y → and_also u x ≡ and_also v y
   two_alike u v x y a b = ap (λ z. and_also z x) a ∙ ap (λ z. and_also v z) b
 
-  all_alike : (ns : List Need) → NoneDone ns → check_all (shown m (counted m.spots)) q (runs f None []) ns ≡ check_all (shown m threads) q (runs f None kids) ns
+  all_alike : (ns : List (Need Address)) → NoneDone ns → check_all (shown m (counted m.spots)) q (runs f None []) ns ≡ check_all (shown m threads) q (runs f None kids) ns
   all_alike [] h = refl
   all_alike (Done made ∷ more) h = absurd h
   all_alike (need ∷ more) h = two_alike _ _ _ _ (check_alike need tt) (all_alike more h)

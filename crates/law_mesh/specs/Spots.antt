@@ -90,7 +90,7 @@ all_gone spots kids [] = true
 all_gone spots kids (k ∷ ks) = kid_gone spots kids k && all_gone spots kids ks
 
 -- what a thread on processor q finds for its ask: it may go on, it waits, or it has a fault
-abbrev pub verdict : Mesh → (q : ℕ) → Fiber → Ask Address → Verdict
+abbrev pub verdict : Mesh → (q : ℕ) → Fiber → Ask Address → Verdict Address
 verdict m q f (Joins made) = if all_gone m.spots f.kids made then Go [] else Hold
 verdict m q f ask = check_all (shown m (counted m.spots)) q (runs f None []) (needs m.code.shapes ask)
 

@@ -318,7 +318,7 @@ module _ (code : Code) (q n : ℕ) (f : Fiber) (caller : Option ThreadNo) (ask :
       (write_all_or o x e.writes p.shelf g))
       (h o x))))
 
-  decided_cells : asks_here q f ask ≡ true → (v : Verdict) → verdict (seen code q p) q f ask ≡ v → CellsAfter (decided code q n f caller ask k p v)
+  decided_cells : asks_here q f ask ≡ true → (v : Verdict Address) → verdict (seen code q p) q f ask ≡ v → CellsAfter (decided code q n f caller ask k p v)
   decided_cells on (Go found) e = by (may_step code q n f caller ask k p found)
     where
       by : (b : Bool) → CellsAfter (if b then Went (Some (OwnStep (record { processor = q; thread = n }))) (effect_here code q n f caller ask k p found).prints (stepped_here code q n f caller ask k p found) else Went None [] p)
@@ -399,7 +399,7 @@ pub serves_cells : (code : Code) (q : ℕ) (t : ThreadNo) (post : Post) (after b
     → ((a : Address) (x : ℕ) → post ≡ Get (Ptr a x) → a.processor ≡ q) → CellsAfter (serves code q t post after before)
 serves_cells code q t post after before h g on = by (verdict (seen code q after) q nobody (ask_of post)) refl
   where
-    by : (v : Verdict) → verdict (seen code q after) q nobody (ask_of post) ≡ v → CellsAfter (served_so q t post v after before)
+    by : (v : Verdict Address) → verdict (seen code q after) q nobody (ask_of post) ≡ v → CellsAfter (served_so q t post v after before)
     by (Go found) e = answer_cells t post found after h
     by Hold e = park_get_cells code q t post after before h g e on
     by (Bad kind) e = tt

@@ -427,7 +427,7 @@ module _ (code : Code) (q n : ℕ) (f : Fiber) (caller : Option ThreadNo) (p : P
                       at false atomic = subst (λ b. LocksWait code (leave_object b (Ptr a w) p4)) (sym atomic) (same_ground (ap (holds code.shapes x.0) y ∙ atomic))
           by x is = plainly (ap (λ y. held_after_on code.shapes f.inside y written_shelves) is) (ap (goes_into code.shapes) is)
 
-    decided_locks : asks_here q f ask ≡ true → (v : Verdict) → verdict (seen code q p) q f ask ≡ v → LocksAfter code (decided code q n f caller ask k p v)
+    decided_locks : asks_here q f ask ≡ true → (v : Verdict Address) → verdict (seen code q p) q f ask ≡ v → LocksAfter code (decided code q n f caller ask k p v)
     decided_locks on (Go found) go = by (may_step code q n f caller ask k p found) refl
       where
         by : (b : Bool) → may_step code q n f caller ask k p found ≡ b
@@ -557,7 +557,7 @@ park_locks code t (Make c vs) after before h g = g
 pub serves_locks : (code : Code) (q : ℕ) (t : ThreadNo) (post : Post) (after before : Processor) → LocksWait code after → LocksWait code before → LocksAfter code (serves code q t post after before)
 serves_locks code q t post after before h g = by (verdict (seen code q after) q nobody (ask_of post))
   where
-    by : (v : Verdict) → LocksAfter code (served_so q t post v after before)
+    by : (v : Verdict Address) → LocksAfter code (served_so q t post v after before)
     by (Go found) = steady code after (answer t post found after) (length after.table) (answer_grows (length after.table) t post found after) (answer_hand t post found after) (no_entry code after) h
     by Hold = park_locks code t post after before h g
     by (Bad kind) = tt

@@ -341,7 +341,7 @@ module _ (code : Code) (q n : ℕ) (f : Fiber) (caller : Option ThreadNo) (p : P
         (then_kept p2.table p3.table (stepped_here code q n f caller ask k p found).table (put_kept p2.table n g Goes caller tt)
         (alike p3.table _ (left_table code.shapes f ask p5 ∙ (taken_table n (goes_into code.shapes ask) p4 ∙ woken_table e.writes p3)))))
 
-    decided_wait : (v : Verdict) → BranchesAfter code q (decided code q n f caller ask k p v)
+    decided_wait : (v : Verdict Address) → BranchesAfter code q (decided code q n f caller ask k p v)
     decided_wait (Go found) = by (may_step code q n f caller ask k p found)
       where
         by : (b : Bool) → BranchesAfter code q (if b then Went (Some (OwnStep (record { processor = q; thread = n }))) (effect_here code q n f caller ask k p found).prints (stepped_here code q n f caller ask k p found) else Went None [] p)
@@ -412,7 +412,7 @@ pub serves_wait : (code : Code) (q : ℕ) (t : ThreadNo) (post : Post) (after be
     → BranchesAfter code q (serves code q t post after before)
 serves_wait code q t post after before e h = by (verdict (seen code q after) q nobody (ask_of post))
   where
-    by : (v : Verdict) → BranchesAfter code q (served_so q t post v after before)
+    by : (v : Verdict Address) → BranchesAfter code q (served_so q t post v after before)
     by (Go found) = branches_kept code q before (answer t post found after) (then_kept before.table after.table _ (alike before.table after.table e) (answer_kept t post found after)) h
     by Hold = branches_kept code q before (park_get t post after before) (alike before.table _ (park_table t post after before e)) h
     by (Bad kind) = tt

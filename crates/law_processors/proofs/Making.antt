@@ -125,7 +125,7 @@ module _ (m : Processors) (n : Mesh) (runs : Runs m n) where
     asking : AskingAt n t (Posted f) f line (NewProcessor c vs) g
     asking = record { at = stands; asks = in_mesh }
 
-    verdict_so : (v : Verdict) → verdict (seen_by_makes m) 0 nobody (NewProcessor c vs) ≡ v → verdict n t.processor f (NewProcessor c vs) ≡ v
+    verdict_so : (v : Verdict Address) → verdict (seen_by_makes m) 0 nobody (NewProcessor c vs) ≡ v → verdict n t.processor f (NewProcessor c vs) ≡ v
     verdict_so v e =
         ap (λ (z : Code). verdict (record n { code = z }) 0 nobody (NewProcessor c vs)) (sym runs.code)
         ∙ (ap (λ ss. verdict (record n { code = m.code; shelves = ss }) 0 nobody (NewProcessor c vs)) (sym runs.shelves) ∙ e)
@@ -301,11 +301,11 @@ module _ (m : Processors) (n : Mesh) (runs : Runs m n) where
         });
       }
 
-  make_verdict : (t : ThreadNo) (c : ℕ) (vs : List (Value Address)) (rest : List Message) → m.makes ≡ Asks t (Make c vs) ∷ rest → (v : Verdict)
+  make_verdict : (t : ThreadNo) (c : ℕ) (vs : List (Value Address)) (rest : List Message) → m.makes ≡ Asks t (Make c vs) ∷ rest → (v : Verdict Address)
       → verdict (seen_by_makes m) 0 nobody (NewProcessor c vs) ≡ v → FineMake (makes_so t c vs rest m v)
   make_verdict t c vs rest first_so v go = by (asking_is m.code (lists m) n.spots runs.lists Makes [] (map Mail rest) t (Make c vs) (ap (map Mail) first_so)) v go
     where
-      by : IsAsking m.code (lists m) n.spots runs.lists Makes [] (map Mail rest) t (Make c vs) → (w : Verdict) → verdict (seen_by_makes m) 0 nobody (NewProcessor c vs) ≡ w
+      by : IsAsking m.code (lists m) n.spots runs.lists Makes [] (map Mail rest) t (Make c vs) → (w : Verdict Address) → verdict (seen_by_makes m) 0 nobody (NewProcessor c vs) ≡ w
           → FineMake (makes_so t c vs rest m w)
       by (IsDelayed b x f stands e) w d = let z : Makes ≡ OfCell b x = e in absurd (cc)
       by (IsPosted f stands posts lies) Hold d = unmoves

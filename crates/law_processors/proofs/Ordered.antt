@@ -205,7 +205,7 @@ abbrev pub OrderlyMade : Code → Did Processors → Type 0
 OrderlyMade code (Went step prints m') = OrderlyAll code m'.all
 OrderlyMade code (Failed kind t) = Unit {0}
 
-makes_so_orderly : (m : Processors) → OrderlyAll m.code m.all → (t : ThreadNo) (c : ℕ) (vs : List (Value Address)) (rest : List Message) (v : Verdict) → OrderlyMade m.code (makes_so t c vs rest m v)
+makes_so_orderly : (m : Processors) → OrderlyAll m.code m.all → (t : ThreadNo) (c : ℕ) (vs : List (Value Address)) (rest : List Message) (v : Verdict Address) → OrderlyMade m.code (makes_so t c vs rest m v)
 makes_so_orderly m h t c vs rest (Go found) =
     let cells = constructed (construct same_address (class_shape m.code.shapes c) vs) in
     let more = all_more m.code m.all (new_processor cells) (new_orderly m.code cells) h in
@@ -259,7 +259,7 @@ module _ (m : Processors) (n : Mesh) (runs : Runs m n) (h : OrderlyAll m.code m.
           CodeIs (Went s pr y) = m.code ≡ y.code
           CodeIs (Failed k t) = Unit {0}
 
-          same_so : (t : ThreadNo) (c : ℕ) (vs : List (Value Address)) (rest : List Message) (v : Verdict) → CodeIs (makes_so t c vs rest m v)
+          same_so : (t : ThreadNo) (c : ℕ) (vs : List (Value Address)) (rest : List Message) (v : Verdict Address) → CodeIs (makes_so t c vs rest m v)
           same_so t c vs rest (Go found) = refl
           same_so t c vs rest Hold = refl
           same_so t c vs rest (Bad kind) = tt

@@ -175,7 +175,7 @@ module _ (m : Processors) (q : ℕ) (p0 : Processor) (there : slice_get m.all q 
     forks : (Forks (ask_of post) → ⊥) → (x : Answer Address) → (g x).branches ≡ []
     forks none = subst ForksNone in_mesh (moves_fork_none n.code f.thread) none
 
-    pub found_there : (v : Verdict) → AnsweredOn q t.processor f (ask_of post) → verdict (seen m.code q p1) q nobody (ask_of post) ≡ v
+    pub found_there : (v : Verdict Address) → AnsweredOn q t.processor f (ask_of post) → verdict (seen m.code q p1) q nobody (ask_of post) ≡ v
         → verdict n t.processor f (ask_of post) ≡ v
     found_there v on go =
         seen_so m q p0 there p1 output n base t.processor f (ask_of post) on

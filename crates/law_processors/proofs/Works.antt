@@ -95,7 +95,7 @@ module _ (m : Processors) (n : Mesh) (runs : Runs m n) (q : ℕ) (p : Processor)
           subst (FaultsAt n (record { processor = q; thread = i }) kind) (sym (line_is (record { processor = q; thread = i }) (Active f) f line ask k stands (active_line f) asks))
           (ActsBadly f ask k asking bad)
 
-      fine_decided : posted ask ≡ None → asks_here q f ask ≡ true → (v : Verdict) → verdict (seen m.code q p) q f ask ≡ v → Fine (decided m.code q i f caller ask k p v)
+      fine_decided : posted ask ≡ None → asks_here q f ask ≡ true → (v : Verdict Address) → verdict (seen m.code q p) q f ask ≡ v → Fine (decided m.code q i f caller ask k p v)
       fine_decided own is_here (Go found) go = by (may_step m.code q i f caller ask k p found) refl
         where
           by : (b : Bool) → may_step m.code q i f caller ask k p found ≡ b
@@ -229,7 +229,7 @@ module _ (m : Processors) (n : Mesh) (runs : Runs m n) (q : ℕ) (p : Processor)
       fine_hold (Make c vs) at by asks here = unmoves
 
       fine_so : (post : Post) → Waiting post → AsksBy m.code post f → move m.code f.thread ≡ Does line (ask_of post) g → target post ≡ Some q
-          → posted (ask_of post) ≡ Some post → (v : Verdict) → verdict (seen m.code q p1) q nobody (ask_of post) ≡ v → Fine (served_so q t post v p1 p)
+          → posted (ask_of post) ≡ Some post → (v : Verdict Address) → verdict (seen m.code q p1) q nobody (ask_of post) ≡ v → Fine (served_so q t post v p1 p)
       fine_so post at by asks here posts (Go found) go = fine_go post at by asks here posts found go
       fine_so post at by asks here posts Hold go = fine_hold post at by asks here
       fine_so post at by asks here posts (Bad kind) bad =

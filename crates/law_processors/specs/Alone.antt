@@ -303,7 +303,7 @@ module _ (code : Code) (q n : ℕ) (f : Fiber) (caller : Option ThreadNo) (ask :
   may_step found =
       not (is_remote ask) && (all_on q f.inside && (ends_free code (on_here found) (settle code (runs (on_here found) None [])) && has_object p (goes_into code.shapes ask)))
 
-  abbrev pub decided : Verdict → Did Processor
+  abbrev pub decided : Verdict Address → Did Processor
   decided (Go found) = if may_step found then Went (Some (OwnStep (record { processor = q; thread = n }))) (effect_here found).prints (stepped_here found) else unmoved p
   decided Hold = silently (waits code q n f caller ask p)
   decided (Bad kind) = Failed kind (record { processor = q; thread = n })
@@ -367,7 +367,7 @@ answer t (Call f o vs) found p = make_thread (Starting f o vs) (Some t) p
 answer t (Cast f o vs) found p = send (Answers t Void) (make_thread (Starting f o vs) None p)
 answer t (Make c vs) found p = p
 
-abbrev pub served_so : (q : ℕ) → ThreadNo → Post → Verdict → (after before : Processor) → Did Processor
+abbrev pub served_so : (q : ℕ) → ThreadNo → Post → Verdict Address → (after before : Processor) → Did Processor
 served_so q t post (Go found) after before = Went (Some (ServedStep (Some q) t post)) [] (answer t post found after)
 served_so q t post Hold after before = silently (park_get t post after before)
 served_so q t post (Bad kind) after before = Failed kind t

@@ -75,7 +75,7 @@ made_for t cells rest m = record {
   output = m.output;
 }
 
-abbrev pub makes_so : ThreadNo → (class : ℕ) → List (Value Address) → (rest : List Message) → Processors → Verdict → Did Processors
+abbrev pub makes_so : ThreadNo → (class : ℕ) → List (Value Address) → (rest : List Message) → Processors → Verdict Address → Did Processors
 makes_so t c vs rest m (Go found) =
     Went (Some (ServedStep None t (Make c vs))) [] (made_for t (constructed (construct same_address (class_shape m.code.shapes c) vs)) rest m)
 makes_so t c vs rest m Hold = unmoved m

@@ -89,7 +89,7 @@ ended_hand code q n c v p =
 -- ---- a move
 
 module _ (code : Code) (q n : ℕ) (f : Fiber) (caller : Option ThreadNo) (ask : Ask Address) (k : Answer Address → Then Address) (p : Processor) (hand : p.hand ≡ Some n) where
-  decided_hand : (v : Verdict) → HandIs q n (decided code q n f caller ask k p v)
+  decided_hand : (v : Verdict Address) → HandIs q n (decided code q n f caller ask k p v)
   decided_hand (Go found) = by (may_step code q n f caller ask k p found)
     where
       by : (b : Bool) → HandIs q n (if b then Went (Some (OwnStep (record { processor = q; thread = n }))) (effect_here code q n f caller ask k p found).prints

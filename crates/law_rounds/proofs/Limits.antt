@@ -118,7 +118,7 @@ module _ (m : Processors) (n : Mesh) (runs : Runs m n) where
   make_goes : (t : ThreadNo) (c : ℕ) (vs : Values) (rest : List Message) → m.makes ≡ Asks t (Make c vs) ∷ rest → CanGo m
   make_goes t c vs rest e = by (verdict (seen_by_makes m) 0 nobody (NewProcessor c vs)) refl
     where
-      by : (v : Verdict) → verdict (seen_by_makes m) 0 nobody (NewProcessor c vs) ≡ v → CanGo m
+      by : (v : Verdict Address) → verdict (seen_by_makes m) 0 nobody (NewProcessor c vs) ≡ v → CanGo m
       by (Go found) d =
           let so : made m ≡ makes_so t c vs rest m (Go found) = ap (λ ms. makes_first ms m) e ∙ ap (makes_so t c vs rest m) d in
           ByStep _ [] _ (machine.Then Stays (machine.Makes (Asks t (Make c vs)) rest (Some (ServedStep None t (Make c vs))) [] _ e so))

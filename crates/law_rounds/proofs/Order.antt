@@ -87,7 +87,7 @@ module _ (code : Code) (q n : ℕ) (f : Fiber) (caller : Option ThreadNo) (ask :
   stepped_inbox : (found : Values) → (stepped_here code q n f caller ask k p found).inbox ≡ p.inbox
   stepped_inbox found = stepped_same (λ r. r.inbox) same_inbox code q n f caller ask k p found
 
-  decided_inbox : (v : Verdict) → Same (λ r. r.inbox) p (decided code q n f caller ask k p v)
+  decided_inbox : (v : Verdict Address) → Same (λ r. r.inbox) p (decided code q n f caller ask k p v)
   decided_inbox (Go found) = by (may_step code q n f caller ask k p found)
     where
       by : (b : Bool) → Same (λ r. r.inbox) p (if b then Went (Some (OwnStep (record { processor = q; thread = n }))) (effect_here code q n f caller ask k p found).prints (stepped_here code q n f caller ask k p found) else Went None [] p)
@@ -154,7 +154,7 @@ park_inbox t (Call f o vs) after before e = refl
 park_inbox t (Cast f o vs) after before e = refl
 park_inbox t (Make c vs) after before e = refl
 
-served_so_inbox : (q : ℕ) (t : ThreadNo) (post : Post) (v : Verdict) (after before : Processor) → after.inbox ≡ before.inbox → Same (λ p. p.inbox) before (served_so q t post v after before)
+served_so_inbox : (q : ℕ) (t : ThreadNo) (post : Post) (v : Verdict Address) (after before : Processor) → after.inbox ≡ before.inbox → Same (λ p. p.inbox) before (served_so q t post v after before)
 served_so_inbox q t post (Go found) after before e = answer_inbox t post found after ∙ e
 served_so_inbox q t post Hold after before e = park_inbox t post after before e
 served_so_inbox q t post (Bad kind) after before e = tt

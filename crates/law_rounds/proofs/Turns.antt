@@ -47,7 +47,7 @@ park_hand t (Call f o vs) after before e = refl
 park_hand t (Cast f o vs) after before e = refl
 park_hand t (Make c vs) after before e = refl
 
-served_so_hand : (q : ℕ) (t : ThreadNo) (post : Post) (v : Verdict) (after before : Processor) → after.hand ≡ before.hand → Same (λ p. p.hand) before (served_so q t post v after before)
+served_so_hand : (q : ℕ) (t : ThreadNo) (post : Post) (v : Verdict Address) (after before : Processor) → after.hand ≡ before.hand → Same (λ p. p.hand) before (served_so q t post v after before)
 served_so_hand q t post (Go found) after before e = answer_hand t post found after ∙ e
 served_so_hand q t post Hold after before e = park_hand t post after before e
 served_so_hand q t post (Bad kind) after before e = tt
@@ -75,7 +75,7 @@ IsNoted ls (Went None prints p) = Unit {0}
 IsNoted ls (Went (Some l) prints p) = ls ≡ l ∷ []
 IsNoted ls (Failed kind t) = Unit {0}
 
-so_noted : (q : ℕ) (t : ThreadNo) (post : Post) (v : Verdict) (after before : Processor) → IsNoted (labels_in (Served q (Asks t post))) (served_so q t post v after before)
+so_noted : (q : ℕ) (t : ThreadNo) (post : Post) (v : Verdict Address) (after before : Processor) → IsNoted (labels_in (Served q (Asks t post))) (served_so q t post v after before)
 so_noted q t post (Go found) after before = refl
 so_noted q t post Hold after before = tt
 so_noted q t post (Bad kind) after before = tt

@@ -67,7 +67,7 @@ module _ (p : Program) (w : Machine) (s : Config) (n : Numbers) (st : Stands p w
           all.2
 
       -- where its needs have these verdicts
-      decided : (v : Verdict) (u : core-needs.Verdict) → check_all w t.processor r (needs w.code.shapes q) ≡ v
+      decided : (v : Verdict Address) (u : core-needs.Verdict Name) → check_all w t.processor r (needs w.code.shapes q) ≡ v
           → core-needs.check_all (shapes p) s x l (core-needs.needs (shapes p) a) ≡ u → SameVerdict n v u → l.asked ≡ None
           → steps.step p x s ≡ steps.decide p x s l line a k u → DoesAlike p s n t (decide w t r line q j v)
       decided (Go vs) (core-needs.Go us) is are verdict none moves = (

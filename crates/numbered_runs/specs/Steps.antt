@@ -108,7 +108,7 @@ module _ (w : Machine) (t : ThreadNo) (r : Runner) (ask : Ask Address) (k : Answ
     output = w.output ++ its_effect.prints;
   }
 
-abbrev pub decide : Machine → ThreadNo → Runner → (line : ℕ) → Ask Address → (Answer Address → Then Address) → Verdict → Outcome
+abbrev pub decide : Machine → ThreadNo → Runner → (line : ℕ) → Ask Address → (Answer Address → Then Address) → Verdict Address → Outcome
 decide w t r line ask k Hold = Waits
 decide w t r line ask k (Bad kind) = Faults kind line
 decide w t r line ask k (Go found) = Moves (apply w t r ask k found)
