@@ -4,19 +4,17 @@ use Rattle.std.specs.Prelude.{slice_get}
 use Rattle.std.specs.Option.{option_map_or}
 use Rattle.std.proofs.lemmas.Option.{same_Some}
 use Rattle.cc_ops.specs.Values.{Value}
-use Rattle.cc_ops.specs.Machine.{Address}
+use Rattle.cc_ops.specs.Machine.{Address, Values}
 use Rattle.cc_core.specs.Core.{Shapes, function_shape}
 use Rattle.cc_ops.specs.declared.kind.Kind.{Kind}
-use Rattle.cc_core.specs.Effects.{numbers}
+use Rattle.cc_ops.specs.declared.number.ThreadNo.{ThreadNo}
+use Rattle.cc_ops.specs.Shelves.{Shelf, changed}
+use Rattle.cc_core.specs.Effects.{numbers, left_behind, branch_count}
 use Rattle.cc_core.specs.Asks.{Ask, Answer}
 use Rattle.cc_core.specs.Asks.{Reads, Writes, Copies, Indexes, Shifts, Computes, Tests, Makes, MakesWith, Builds, Enters, Leaves}
 use Rattle.cc_core.specs.Asks.{ForksAll, ForksOne, Joins, Spawns, Prints, Calls, Casts, NewProcessor}
 use Rattle.cc_code.specs.Code.{Then}
-use Rattle.cc_ops.specs.declared.number.ThreadNo.{ThreadNo}
-use Rattle.cc_ops.specs.Shelves.{Shelf, changed}
-use Rattle.cc_ops.specs.Machine.{Values}
 use Rattle.numbered_runs.specs.Effects.{Effect, more_shelves, start_home, write_all, put_things, addresses, held_after, parameters}
-use Rattle.cc_core.specs.Effects.{left_behind, branch_count}
 use Rattle.numbered_runs.specs.Steps.{settle, freed, numbers_on}
 use Rattle.numbered_runs.proofs.Lists.{get_changed}
 use Rattle.law_mesh.specs.Spots.{Fiber, Spot, Active, Mesh, runs, put_item}

@@ -7,13 +7,12 @@ use Rattle.cc_ops.specs.Machine.{Address}
 use Rattle.cc_core.specs.Core.{function_shape}
 use Rattle.cc_core.specs.Asks.{Ask, Reads, Writes, Copies, Indexes, Shifts, Computes, Tests, Makes, MakesWith, Builds, Enters, Leaves}
 use Rattle.cc_core.specs.Asks.{ForksAll, ForksOne, Joins, Spawns, Prints, Calls, Casts, NewProcessor}
-use Rattle.cc_core.specs.Needs.{most_threads, most_slots}
+use Rattle.cc_core.specs.Needs.{most_threads, most_slots, Need, Filled, Unfilled, AllCells, Free, Threads, ThreadAt, Slots}
+use Rattle.cc_core.specs.Needs.{Go, Hold, and_also, room, read, writable, all_in}
 use Rattle.global_ptr.specs.declared.ends.FaultKind.TheVariants.{ThreadsFull, StoreFull}
 use Rattle.cc_ops.specs.declared.number.ThreadNo.{ThreadNo}
 use Rattle.cc_ops.specs.Shelves.{Thing, Shelf, home_in, thing_in, slots_in}
 use Rattle.numbered_runs.specs.Machine.{made_in}
-use Rattle.cc_core.specs.Needs.{Need, Filled, Unfilled, AllCells, Free, Threads, ThreadAt, Slots}
-use Rattle.cc_core.specs.Needs.{Go, Hold, and_also, room, read, writable, all_in}
 use Rattle.numbered_runs.specs.Looks.{needs, check, check_all}
 use Rattle.law_mesh.specs.Spots.{Fiber, Spot, Mesh, shown, runs, counted, verdict, is_gone, spot_of, kid_gone, all_gone}
 use Rattle.law_mesh.specs.Local.{IsOn, KidsOn, AnsweredOn, LeadsTo}

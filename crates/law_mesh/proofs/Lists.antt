@@ -2,9 +2,9 @@
 use Rattle.std.proofs.Common.{◌≡◌, ◌⊎◌, inl, inr, ⊎_elim, ℕ, zero, suc, List, [], ◌∷◌, ◌++◌, length, map, slice_get, Some, refl, sym, ap, ◌∙◌, subst}
 use Rattle.std.specs.Option.{option_and_then}
 use Rattle.std.proofs.lemmas.Option.{none-some, same_Some}
-use Rattle.code_names.specs.Same.{Pairwise}
 use Rattle.cc_ops.specs.declared.number.ThreadNo.{ThreadNo}
 use Rattle.cc_ops.specs.Shelves.{changed}
+use Rattle.code_names.specs.Same.{Pairwise}
 use Rattle.numbered_runs.proofs.Lists.{pairwise_right, pairwise_left, pairwise_length, pairwise_push, both_found, then_found, get_in_front, get_last, get_changed, get_unchanged}
 use Rattle.law_mesh.specs.Spots.{Spot, item_in, put_item, counted, some_progress}
 use Rattle.law_mesh.specs.Moves.{push_item, push_items, more_lists, made_of}

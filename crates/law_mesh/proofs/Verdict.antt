@@ -1,21 +1,19 @@
 -- A mesh finds of what is asked what the machine finds that it shows.
 use Rattle.std.proofs.Common.{◌≡◌, ℕ, List, [], ◌∷◌, Bool, true, false, ◌&&◌, Option, Some, None, refl, sym, ap, ◌∙◌}
-use Rattle.std.specs.Prelude.{if◌then◌else◌, slice_get}
+use Rattle.std.specs.Prelude.{if◌then◌else◌, slice_get, is_some}
 use Rattle.std.specs.Option.{option_and_then}
 use Rattle.std.proofs.lemmas.Bool.{false≢true}
 use Rattle.cc_ops.specs.Machine.{Address}
+use Rattle.cc_ops.specs.declared.number.ThreadNo.{ThreadNo}
+use Rattle.cc_ops.specs.Shelves.{home_in}
 use Rattle.cc_core.specs.Asks.{Ask, Reads, Writes, Copies, Indexes, Shifts, Computes, Tests, Makes, MakesWith, Builds, Enters, Leaves}
 use Rattle.cc_core.specs.Asks.{ForksAll, ForksOne, Joins, Spawns, Prints, Calls, Casts, NewProcessor}
-use Rattle.cc_core.specs.Needs.{most_threads}
+use Rattle.cc_core.specs.Needs.{most_threads, Verdict, Go, Hold, Bad, and_also, room}
+use Rattle.cc_core.specs.Needs.{Need, Known, Filled, Unfilled, AllCells, Object, Free, Done, Deeper, Threads, ThreadAt, Slots, FirstSlots, Processor, Constructs}
 use Rattle.global_ptr.specs.declared.ends.FaultKind.TheVariants.{ThreadsFull}
 use Rattle.code_names.specs.Same.{Pairwise}
-use Rattle.cc_ops.specs.declared.number.ThreadNo.{ThreadNo}
 use Rattle.numbered_runs.specs.Machine.{Progress, made_in, thread_in, ended_with}
-use Rattle.cc_ops.specs.Shelves.{home_in}
-use Rattle.cc_core.specs.Needs.{Need, Known, Filled, Unfilled, AllCells, Object, Free, Done, Deeper, Threads, ThreadAt, Slots, FirstSlots, Processor, Constructs}
-use Rattle.cc_core.specs.Needs.{Verdict, Go, Hold, Bad, and_also, room}
 use Rattle.numbered_runs.specs.Looks.{needs, check, check_all, has_ended, all_ended}
-use Rattle.std.specs.Prelude.{is_some}
 use Rattle.numbered_runs.proofs.Lists.{pairwise_right}
 use Rattle.law_mesh.specs.Spots.{Fiber, Spot, Gone, Mesh, item_in, shown, runs, counted, verdict, is_gone, spot_of, kid_gone, all_gone}
 use Rattle.law_mesh.specs.Shows.{IsKid, Alike, Shows}

@@ -2,14 +2,13 @@
 use Rattle.std.specs.Prelude.{ℕ, List, [], ◌∷◌, ◌++◌, map, slice_get, Bool, true, false, ◌&&◌, if◌then◌else◌, Option, Some, None}
 use Rattle.std.specs.Option.{option_and_then}
 use Rattle.cc_ops.specs.Values.{Value, Void}
-use Rattle.cc_ops.specs.Machine.{Address}
-use Rattle.cc_core.specs.Asks.{Ask, Joins, Casts}
-use Rattle.cc_code.specs.Code.{Code, Thread, Move, Silent, Does, Ends, Stuck, move}
+use Rattle.cc_ops.specs.Machine.{Address, Values}
 use Rattle.cc_ops.specs.declared.number.ThreadNo.{ThreadNo}
-use Rattle.numbered_runs.specs.Machine.{Machine, Runner, Progress, Over}
 use Rattle.cc_ops.specs.Shelves.{Shelf, changed}
-use Rattle.cc_ops.specs.Machine.{Values}
+use Rattle.cc_core.specs.Asks.{Ask, Joins, Casts}
 use Rattle.cc_core.specs.Needs.{Verdict, Go, Hold}
+use Rattle.cc_code.specs.Code.{Code, Thread, Move, Silent, Does, Ends, Stuck, move}
+use Rattle.numbered_runs.specs.Machine.{Machine, Runner, Progress, Over}
 use Rattle.numbered_runs.specs.Looks.{needs, check_all}
 
 -- A thread as its processor knows it: what it has left to do; the threads that it made, in order, of which one that was made by a request has no

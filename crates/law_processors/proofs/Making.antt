@@ -6,17 +6,16 @@ use Rattle.std.proofs.lemmas.Option.{none-some, same_Some}
 use Rattle.global_ptr.specs.declared.ends.FaultKind.{FaultKind}
 use Rattle.cc_ops.specs.Values.{Value, Cell, Ptr, Result, Gives, Fails}
 use Rattle.cc_ops.specs.Classes.{construct}
-use Rattle.cc_ops.specs.Machine.{Address, same_address}
+use Rattle.cc_ops.specs.Machine.{Address, same_address, Values}
+use Rattle.cc_ops.specs.declared.number.ThreadNo.{ThreadNo}
+use Rattle.cc_ops.specs.Shelves.{Shelf, no_shelf, changed}
 use Rattle.cc_core.specs.Core.{class_shape}
 use Rattle.cc_core.specs.Asks.{Answer, NewProcessor}
 use Rattle.cc_core.specs.Numbers.{Get, Put, Call, Cast, Make}
-use Rattle.cc_code.specs.Code.{Code, Then, Does, move}
-use Rattle.code_names.specs.Same.{Pairwise}
-use Rattle.cc_ops.specs.declared.number.ThreadNo.{ThreadNo}
-use Rattle.cc_ops.specs.Shelves.{Shelf, no_shelf, changed}
-use Rattle.cc_ops.specs.Machine.{Values}
 use Rattle.cc_core.specs.Needs.{Verdict, Go, Hold, Bad, and_also, of_result}
 use Rattle.cc_core.specs.Effects.{constructed}
+use Rattle.cc_code.specs.Code.{Code, Then, Does, move}
+use Rattle.code_names.specs.Same.{Pairwise}
 use Rattle.numbered_runs.proofs.Lists.{get_last, both_found, pairwise_push}
 use Rattle.law_mesh.specs.Spots.{Fiber, Spot, Posted, Answered, Calling, Mesh, item_in, put_item, verdict}
 use Rattle.law_mesh.specs.Moves.{Serves, served_step, Asking as AskingAt, FaultsAt, ServedBadly, served}

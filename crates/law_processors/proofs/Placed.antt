@@ -4,11 +4,11 @@ use Rattle.std.specs.Option.{option_map_or}
 use Rattle.global_ptr.specs.declared.ends.FaultKind.TheVariants.{NullPointer}
 use Rattle.cc_ops.specs.Machine.{Address}
 use Rattle.cc_ops.specs.Values.{Value}
+use Rattle.cc_ops.specs.declared.number.ThreadNo.{ThreadNo}
 use Rattle.cc_core.specs.Asks.{Ask, Answer}
 use Rattle.cc_core.specs.Numbers.{Post, Get, Put, Call, Cast, Make}
-use Rattle.cc_code.specs.Code.{Code, Then, Move, Silent, Does, Ends, Stuck, move}
-use Rattle.cc_ops.specs.declared.number.ThreadNo.{ThreadNo}
 use Rattle.cc_core.specs.Needs.{Verdict, Go, Hold, Bad}
+use Rattle.cc_code.specs.Code.{Code, Then, Move, Silent, Does, Ends, Stuck, move}
 use Rattle.numbered_runs.specs.Posts.{posted}
 use Rattle.law_mesh.specs.Spots.{Fiber, Mesh, verdict}
 use Rattle.law_mesh.specs.Queues.{Queue, Item, Mail, Message, Asks, Answers, Inbox, Ready, OfCell, target, holds_none}

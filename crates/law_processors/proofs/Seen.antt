@@ -5,15 +5,15 @@ use Rattle.std.specs.Option.{option_and_then}
 use Rattle.std.proofs.lemmas.Bool.{false≢true}
 use Rattle.cc_ops.specs.Values.{Value, Void, Int, Null, Ptr}
 use Rattle.cc_ops.specs.Machine.{Address}
+use Rattle.cc_ops.specs.declared.number.ThreadNo.{ThreadNo}
+use Rattle.cc_ops.specs.Shelves.{Shelf, no_shelf}
 use Rattle.cc_core.specs.Asks.{Ask, Reads, Writes, Copies, Indexes, Shifts, Computes, Tests, Makes, MakesWith, Builds, Enters, Leaves}
 use Rattle.cc_core.specs.Asks.{ForksAll, ForksOne, Joins, Spawns, Prints, Calls, Casts, NewProcessor}
 use Rattle.cc_core.specs.Numbers.{Post, Get, Put, Call, Cast, Make}
+use Rattle.cc_core.specs.Needs.{Go, Hold}
 use Rattle.cc_code.specs.Code.{Code}
 use Rattle.code_names.specs.Same.{Pairwise}
-use Rattle.cc_ops.specs.declared.number.ThreadNo.{ThreadNo}
-use Rattle.cc_ops.specs.Shelves.{Shelf, no_shelf}
 use Rattle.numbered_runs.specs.Machine.{Progress}
-use Rattle.cc_core.specs.Needs.{Go, Hold}
 use Rattle.numbered_runs.specs.Looks.{needs, check_all}
 use Rattle.numbered_runs.proofs.Lists.{get_changed, pairwise_right}
 use Rattle.law_mesh.specs.Spots.{Fiber, Spot, Active, Parked, Posted, Delayed, Answered, Calling, Called, Gone, Mesh, shown, runs, counted, some_progress, verdict, is_gone, kid_gone, all_gone}

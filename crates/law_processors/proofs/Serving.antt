@@ -7,14 +7,13 @@ use Rattle.std.specs.Option.{option_and_then}
 use Rattle.global_ptr.specs.declared.ends.FaultKind.{FaultKind}
 use Rattle.cc_ops.specs.Values.{Value, Void, Int, Null, Ptr, first}
 use Rattle.cc_ops.specs.Values as values
-use Rattle.cc_ops.specs.Machine.{Address}
-use Rattle.cc_core.specs.Asks.{Ask, Answer, Reads, Writes, Calls, Casts, NewProcessor}
-use Rattle.cc_core.specs.Numbers.{Post, Get, Put, Call, Cast, Make}
-use Rattle.cc_code.specs.Code.{Code, Thread, Then, Move, Silent, Does, Ends, Stuck, Starting, move}
+use Rattle.cc_ops.specs.Machine.{Address, Values}
 use Rattle.cc_ops.specs.declared.number.ThreadNo.{ThreadNo}
 use Rattle.cc_ops.specs.Shelves.{Shelf, changed}
-use Rattle.cc_ops.specs.Machine.{Values}
+use Rattle.cc_core.specs.Asks.{Ask, Answer, Reads, Writes, Calls, Casts, NewProcessor}
+use Rattle.cc_core.specs.Numbers.{Post, Get, Put, Call, Cast, Make}
 use Rattle.cc_core.specs.Needs.{Verdict, Go, Hold, Bad, and_also, read, writable}
+use Rattle.cc_code.specs.Code.{Code, Thread, Then, Move, Silent, Does, Ends, Stuck, Starting, move}
 use Rattle.numbered_runs.specs.Effects.{Effect}
 use Rattle.numbered_runs.specs.Posts.{posted, move_posts, where_address}
 use Rattle.numbered_runs.specs.Steps.{settle}

@@ -1,21 +1,20 @@
 -- What one processor does, the mesh does that the machine shows.
 use Rattle.law_processors.specs.Alone.{OwnStep}
 use Rattle.std.proofs.Common.{◌≡◌, inl, ℕ, List, [], ◌∷◌, ◌++◌, map, Bool, true, false, not, Option, Some, None, refl, sym, ap, ◌∙◌, subst}
-use Rattle.std.specs.Prelude.{slice_get, if◌then◌else◌}
 use Rattle.std.proofs.lemmas.Option.{none-some, same_Some}
 use Rattle.std.proofs.lemmas.Bool.{false≢true}
+use Rattle.std.specs.Prelude.{slice_get, if◌then◌else◌}
 use Rattle.global_ptr.specs.declared.ends.FaultKind.{FaultKind}
 use Rattle.global_ptr.specs.declared.ends.FaultKind.TheVariants.{NullPointer}
 use Rattle.cc_ops.specs.Values.{Value, Void, Int, Null, Ptr}
-use Rattle.cc_ops.specs.Machine.{Address}
-use Rattle.cc_core.specs.Asks.{Ask, Answer, Calls, Casts}
-use Rattle.cc_core.specs.Numbers.{Post, Get, Put, Call, Cast, Make}
-use Rattle.cc_code.specs.Code.{Code, Then, Move, Silent, Does, Ends, Stuck, move}
+use Rattle.cc_ops.specs.Machine.{Address, Values}
 use Rattle.cc_ops.specs.declared.number.ThreadNo.{ThreadNo}
 use Rattle.cc_ops.specs.Shelves.{home_in}
-use Rattle.law_mesh.specs.Local.{AnsweredOn}
-use Rattle.cc_ops.specs.Machine.{Values}
+use Rattle.cc_core.specs.Asks.{Ask, Answer, Calls, Casts}
+use Rattle.cc_core.specs.Numbers.{Post, Get, Put, Call, Cast, Make}
 use Rattle.cc_core.specs.Needs.{Verdict, Go, Hold, Bad}
+use Rattle.cc_code.specs.Code.{Code, Then, Move, Silent, Does, Ends, Stuck, move}
+use Rattle.law_mesh.specs.Local.{AnsweredOn}
 use Rattle.numbered_runs.specs.Posts.{posted}
 use Rattle.law_mesh.specs.Spots.{Fiber, Spot, Active, Posted, Answered, Called, Mesh, item_in, put_item, verdict, answered}
 use Rattle.law_mesh.specs.Moves.{Comes, Asking as AskingAt, FaultsAt, ActsBadly, ServedBadly, with_spot, with_spots}

@@ -11,6 +11,8 @@ ghost use Rattle.std.specs.Prelude.{◌≡◌, ◌<◌, ℤ, ℕ, List, [], leng
 ghost use Rattle.global_ptr.specs.declared.ends.FaultKind.{FaultKind};
 ghost use Rattle.cc_ops.specs.Values.{Ptr};
 ghost use Rattle.cc_ops.specs.Machine.{Address};
+ghost use Rattle.cc_ops.specs.declared.number.ThreadNo.{ThreadNo};
+ghost use Rattle.cc_ops.specs.Shelves.{Shelf, no_shelf, cell_in, cells_in, is_held, slots_in};
 ghost use Rattle.cc_core.specs.Names.{Name};
 ghost use Rattle.cc_core.specs.Core.{Program, function};
 ghost use Rattle.cc_core.specs.Config.{Config};
@@ -18,8 +20,6 @@ ghost use Rattle.cc_core.specs.Source.{IsProgram};
 ghost use Rattle.cc_core.specs.Steps as core;
 ghost use Rattle.cc_core.specs.Numbers.{Numbers, first_numbers};
 ghost use Rattle.cc_code.specs.Code.{Code};
-ghost use Rattle.cc_ops.specs.declared.number.ThreadNo.{ThreadNo};
-ghost use Rattle.cc_ops.specs.Shelves.{Shelf, no_shelf, cell_in, cells_in, is_held, slots_in};
 ghost use Rattle.numbered_runs.specs.Machine.{made_in};
 ghost use Rattle.numbered_runs.specs.Stands.{IsThread};
 ghost use Rattle.core_types.specs.Types.{Types};

@@ -7,7 +7,7 @@ use Rattle.global_ptr.specs.declared.ends.FaultKind.{FaultKind}
 use Rattle.global_ptr.specs.declared.ends.Standing.{Standing}
 use Rattle.cc_ops.specs.Values.{Cell, Result, Gives, Fails}
 use Rattle.cc_ops.specs.Classes.{construct}
-use Rattle.cc_ops.specs.Machine.{Address, same_address}
+use Rattle.cc_ops.specs.Machine.{Address, same_address, Values}
 use Rattle.cc_core.specs.Asks.{NewProcessor}
 use Rattle.cc_core.specs.Config.{Config}
 use Rattle.cc_core.specs.Core.{Program, class_shape}
@@ -15,10 +15,9 @@ use Rattle.cc_core.specs.Names.{Name}
 use Rattle.cc_core.specs.Numbers.{Post, Get, Put, Call, Cast, Make, Numbers, first_numbers}
 use Rattle.cc_core.specs.Source.{IsProgram}
 use Rattle.cc_core.specs.Steps as core
+use Rattle.cc_core.specs.Needs.{Verdict, Go, Hold, Bad, and_also, of_result}
 use Rattle.cc_ops.specs.declared.number.ThreadNo.{ThreadNo}
 use Rattle.numbered_runs.proofs.Lists.{get_changed}
-use Rattle.cc_ops.specs.Machine.{Values}
-use Rattle.cc_core.specs.Needs.{Verdict, Go, Hold, Bad, and_also, of_result}
 use Rattle.law_mesh.specs.Spots.{Mesh, verdict}
 use Rattle.law_mesh.specs.Queues.{OfCell, Makes, Message, Asks, Answers, Mail, target}
 use Rattle.law_processors.specs.Processors.{Processor, Processors, Runs, lists, printing, with_processor}

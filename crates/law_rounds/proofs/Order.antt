@@ -5,15 +5,15 @@ use Rattle.std.proofs.lemmas.Option.{none-some, same_Some}
 use Rattle.global_ptr.specs.declared.ends.FaultKind.TheVariants.{NullPointer}
 use Rattle.rand_xoshiro.specs.SplitMix64.{mix_u64}
 use Rattle.cc_ops.specs.Values.{Value, Void, Int, Null, Ptr}
-use Rattle.cc_ops.specs.Machine.{Address}
+use Rattle.cc_ops.specs.Machine.{Address, Values}
+use Rattle.cc_ops.specs.declared.number.ThreadNo.{ThreadNo}
+use Rattle.cc_ops.specs.Shelves.{changed}
 use Rattle.cc_core.specs.Core.{Shapes}
 use Rattle.cc_core.specs.Asks.{Ask, Answer, Reads, Enters, Leaves}
 use Rattle.cc_core.specs.Asks as asks
 use Rattle.cc_core.specs.Numbers.{Post, Get, Put, Call, Cast, Make}
-use Rattle.cc_code.specs.Code.{Code, Thread, Then, Move, Silent, Does, Ends, Stuck, move}
-use Rattle.cc_ops.specs.declared.number.ThreadNo.{ThreadNo}
-use Rattle.cc_ops.specs.Machine.{Values}
 use Rattle.cc_core.specs.Needs.{Verdict, Go, Hold, Bad}
+use Rattle.cc_code.specs.Code.{Code, Thread, Then, Move, Silent, Does, Ends, Stuck, move}
 use Rattle.numbered_runs.specs.Posts.{posted}
 use Rattle.law_mesh.specs.Local.{write_on, place_after, new_here}
 use Rattle.law_processors.specs.Living.{one_lives, joins_of}
@@ -24,7 +24,6 @@ use Rattle.law_processors.specs.Alone.{OwnStep, Did, Went, Failed, be_ready, ser
 use Rattle.law_processors.specs.Machine.{without_ready, Run}
 use Rattle.law_rounds.specs.Turn.{Note, begin, TurnIs, TurnRuns, EndsSo, TurnEnd, Quota, Idle, Fault, Phase, Serving, Picking, Running, Leaving, Closed, Turning, Pick, pick, at_phase, end_of, closes}
 use Rattle.law_rounds.specs.Turn.{after_serving, serves_on, takes, with_state, picks, stays, after_move, runs_on, ends_soon, ended_or_not, after_end, put_back, leaves, tick_in, tick, ticks}
-use Rattle.cc_ops.specs.Shelves.{changed}
 use Rattle.law_mesh.proofs.Local.{changed_alike, changed_same}
 use Rattle.law_processors.proofs.Base.{append_none}
 use Rattle.law_rounds.proofs.Kept.{Same, wake_same, stepped_same}

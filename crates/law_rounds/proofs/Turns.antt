@@ -4,13 +4,12 @@ use Rattle.std.specs.Prelude.{slice_get}
 use Rattle.std.proofs.lemmas.Option.{none-some, same_Some}
 use Rattle.global_ptr.specs.declared.ends.FaultKind.{FaultKind}
 use Rattle.cc_ops.specs.Values.{Value, Void, Int, Null, Ptr}
-use Rattle.cc_ops.specs.Machine.{Address}
-use Rattle.cc_core.specs.Numbers.{Post, Get, Put, Call, Cast, Make}
-use Rattle.cc_code.specs.Code.{Code}
+use Rattle.cc_ops.specs.Machine.{Address, Values}
 use Rattle.cc_ops.specs.declared.number.ThreadNo.{ThreadNo}
 use Rattle.cc_ops.specs.Shelves.{changed}
-use Rattle.cc_ops.specs.Machine.{Values}
+use Rattle.cc_core.specs.Numbers.{Post, Get, Put, Call, Cast, Make}
 use Rattle.cc_core.specs.Needs.{Verdict, Go, Hold, Bad}
+use Rattle.cc_code.specs.Code.{Code}
 use Rattle.numbered_runs.proofs.Lists.{get_changed}
 use Rattle.law_mesh.specs.Local.{write_on}
 use Rattle.law_mesh.specs.Spots.{verdict}

@@ -2,7 +2,7 @@
 use Rattle.std.proofs.Common.{◌≡◌, ⊎_elim, ℕ, ◌+◌, ◌<◌, ◌≤◌, List, [], ◌∷◌, length, map, Bool, true, false, ◌&&◌, ◌||◌, Option, Some, None, refl, sym, ap, ◌∙◌, subst, arith}
 use Rattle.std.proofs.lemmas.Bool.{and_right, or_from}
 use Rattle.std.proofs.lemmas.Option.{slice_get_cases}
-use Rattle.std.specs.Prelude.{slice_get, get_or, nat_le, nat_lt, if◌then◌else◌}
+use Rattle.std.specs.Prelude.{slice_get, get_or, nat_le, nat_lt, if◌then◌else◌, is_some}
 use Rattle.std.specs.Option.{option_and_then, option_map_or}
 use Rattle.std.specs.FinMap as fin
 use Rattle.global_ptr.specs.declared.ends.FaultKind.{FaultKind}
@@ -12,6 +12,8 @@ use Rattle.cc_ops.specs.Operators.{compute}
 use Rattle.cc_ops.specs.Addresses.{indexed, shifted}
 use Rattle.cc_ops.specs.Classes.{construct, arity, size}
 use Rattle.cc_ops.specs.Machine.{Address, same_address}
+use Rattle.cc_ops.specs.declared.number.ThreadNo.{ThreadNo}
+use Rattle.cc_ops.specs.Shelves.{Thing, cell_in, cells_in, is_held, slots_in, home_in}
 use Rattle.cc_core.specs.Names.{Name, same_name, count}
 use Rattle.cc_core.specs.Core.{Program, Shapes, shapes, function_shape, class_shape}
 use Rattle.cc_core.specs.Asks.{Ask, Reads, Writes, Copies, Indexes, Shifts, Computes, Tests, Makes, MakesWith, Builds, Enters, Leaves}
@@ -19,6 +21,9 @@ use Rattle.cc_core.specs.Asks.{ForksAll, ForksOne, Joins, Spawns, Prints, Calls,
 use Rattle.cc_core.specs.Config as config
 use Rattle.cc_core.specs.Config.{Config, Thread, State, Live, Ended}
 use Rattle.cc_core.specs.Needs as core
+use Rattle.cc_core.specs.Needs.{Need, Known, Filled, Unfilled, AllCells, Object, Free, Done, Deeper, Threads, ThreadAt, Slots, FirstSlots, Processor, Constructs}
+use Rattle.cc_core.specs.Needs.{Verdict, Go, Hold, Bad, one, of_result, at_object, read, writable, value_in, all_in, object_there, room, and_also, all_of}
+use Rattle.cc_core.specs.Needs.{most_processors, most_threads, most_slots, most_calls}
 use Rattle.cc_core.specs.Numbers.{Numbers, listed}
 use Rattle.cc_core.proofs.Fresh.{free_reached}
 use Rattle.cc_code.specs.Code.{Code}
@@ -26,13 +31,8 @@ use Rattle.code_names.specs.Same.{Pairwise, Told, SameValues, SameAsk}
 use Rattle.code_names.proofs.Values.{int_same}
 use Rattle.run_numbers.proofs.Numbers.{reached}
 use Rattle.run_numbers.proofs.Counts.{threads_are_counted}
-use Rattle.cc_ops.specs.declared.number.ThreadNo.{ThreadNo}
 use Rattle.numbered_runs.specs.Machine.{Machine, Runner, Progress, Goes, Over, thread_in, made_in, ended_with}
-use Rattle.cc_ops.specs.Shelves.{Thing, cell_in, cells_in, is_held, slots_in, home_in}
-use Rattle.cc_core.specs.Needs.{Need, Known, Filled, Unfilled, AllCells, Object, Free, Done, Deeper, Threads, ThreadAt, Slots, FirstSlots, Processor, Constructs}
-use Rattle.cc_core.specs.Needs.{Verdict, Go, Hold, Bad, one, of_result, at_object, read, writable, value_in, all_in, object_there, room, and_also}
 use Rattle.numbered_runs.specs.Looks.{needs, has_ended, all_ended, check, check_all}
-use Rattle.std.specs.Prelude.{is_some}
 use Rattle.numbered_runs.specs.Stands.{Stands, is_object, IsThread, Alike, SameCell, SameLive, SameState, SameInside, IsThreadAt, IsThingAt, IsShelf}
 use Rattle.numbered_runs.proofs.Lists.{pairwise_length, pairwise_append, SameOption, same_option}
 use Rattle.numbered_runs.proofs.Naming.{same_objects, table_at, shelf_at, thread_at, thing_at, home, pointer_home}
@@ -296,10 +296,7 @@ module _ (p : Program) (w : Machine) (s : Config) (n : Numbers) (st : Stands p w
         (slice_get_cases r.kids k).1
 
     all_ended_same : (made : List ℕ) → all_ended w.threads r.kids made ≡ core.all_ended s.threads x made
-    all_ended_same [] = refl
-    all_ended_same (k ∷ ks) =
-        ap (λ b. b && all_ended w.threads r.kids ks) (ended_same k)
-        ∙ ap (λ b. core.ended (fin.get s.threads (k ∷ x)) && b) (all_ended_same ks)
+    all_ended_same made = λ i. all_of (λ k. ended_same k i) made
 
     free_same : (f g : ℕ) (v : Value Address) (u : Value Name) → f ≡ g → Alike n v u
         → SameVerdict n (check w t.processor r (Free f v)) (core.check (shapes p) s x l (Free g u))
