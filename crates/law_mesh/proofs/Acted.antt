@@ -17,8 +17,8 @@ use Rattle.cc_code.specs.Code.{Then}
 use Rattle.numbered_runs.specs.Effects.{Effect, more_shelves, start_home, write_all, put_things, addresses, held_after, parameters}
 use Rattle.numbered_runs.specs.Steps.{settle, freed, numbers_on}
 use Rattle.numbered_runs.proofs.Lists.{get_changed}
-use Rattle.law_mesh.specs.Spots.{Fiber, Spot, Active, Mesh, runs, put_item}
-use Rattle.law_mesh.specs.Moves.{effect_of, push_item, push_items, more_lists, made_of, new_spots, known, acted, gone_on}
+use Rattle.law_mesh.specs.Spots.{Fiber, Spot, Active, Mesh, runs, put_item, made_of}
+use Rattle.law_mesh.specs.Moves.{effect_of, push_item, push_items, more_lists, new_spots, known, acted, gone_on}
 use Rattle.law_mesh.specs.Local.{Place, place_after, AsksOn, AreOn, write_all_on, put_all_on, held_after_on, freed_on, addresses_on}
 use Rattle.law_mesh.proofs.Local.{changed_twice, changed_alike, changed_same, ChangesOn, nothing_on, then_on, values_on, made_on, addresses_here, noted_on, left_on, freed_at, WritesOn, MadeOn}
 

@@ -14,8 +14,8 @@ use Rattle.numbered_runs.specs.Machine.{Machine, Runner, Progress, Goes, Over, t
 use Rattle.numbered_runs.specs.Effects.{Effect, effect, start_home, write_all, more_shelves, put_things, addresses, held_after}
 use Rattle.numbered_runs.specs.Steps.{settle, freed, settle_all, more_tables, push_all, numbers_on, apply, itself}
 use Rattle.numbered_runs.proofs.Lists.{pairwise_append, pairwise_length, pairwise_kept}
-use Rattle.law_mesh.specs.Spots.{Fiber, Spot, Active, Parked, Posted, Delayed, Answered, Calling, Called, Gone, Mesh, shown, runs, item_in}
-use Rattle.law_mesh.specs.Moves.{new_spots, known, effect_of, made_of, more_lists, push_items, stepped, gone_on}
+use Rattle.law_mesh.specs.Spots.{Fiber, Spot, Active, Parked, Posted, Delayed, Answered, Calling, Called, Gone, Mesh, shown, runs, item_in, made_of}
+use Rattle.law_mesh.specs.Moves.{new_spots, known, effect_of, more_lists, push_items, stepped, gone_on}
 use Rattle.law_mesh.specs.Shows.{IsKid, Alike, Shows}
 use Rattle.law_mesh.proofs.Lists.{both_put, both_more, both_pushed, same_made, stays_more, stays_pushed, stays_put}
 use Rattle.law_mesh.proofs.Settle.{freed_alike}

@@ -17,8 +17,8 @@ use Rattle.cc_code.specs.Code.{Code, Thread, Then, Move, Silent, Does, Ends, Stu
 use Rattle.numbered_runs.specs.Effects.{Effect}
 use Rattle.numbered_runs.specs.Posts.{posted, move_posts, where_address}
 use Rattle.numbered_runs.specs.Steps.{settle}
-use Rattle.law_mesh.specs.Spots.{Fiber, Spot, Active, Posted, Delayed, Answered, Calling, Mesh, item_in, put_item, runs, verdict}
-use Rattle.law_mesh.specs.Moves.{Serves, ServesCall, served_step, Delays, Asking as AskingAt, with_spot, served, call_served, effect_of, push_item, push_items, new_spots, new_fiber, made_of, held_then, tables, home, values_given, gone_on, its_new}
+use Rattle.law_mesh.specs.Spots.{Fiber, Spot, Active, Posted, Delayed, Answered, Calling, Mesh, item_in, put_item, runs, verdict, made_of}
+use Rattle.law_mesh.specs.Moves.{Serves, ServesCall, served_step, Delays, Asking as AskingAt, with_spot, served, call_served, effect_of, push_item, push_items, new_spots, new_fiber, held_then, tables, home, values_given, gone_on, its_new}
 use Rattle.law_mesh.specs.Local.{AnsweredOn, write_on}
 use Rattle.law_mesh.specs.Queues.{Queue, OfCell, Outbox, Asks, Answers, Item, Mail, Hold as HoldLists, AsksBy, IsAnswered, holds_none}
 use Rattle.law_processors.specs.Processors.{Asked, Goes, Joins, Asking, Has, Entry, Lives, Ended, Processor, Processors, IsEntry, shelves_of, lists, with_processor}
