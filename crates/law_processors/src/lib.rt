@@ -20,7 +20,6 @@ ghost use Rattle.cc_core.specs.Source.{IsProgram};
 ghost use Rattle.cc_core.specs.Steps as core;
 ghost use Rattle.cc_core.specs.Numbers.{Numbers, first_numbers};
 ghost use Rattle.cc_code.specs.Code.{Code};
-ghost use Rattle.numbered_runs.specs.Machine.{made_in};
 ghost use Rattle.numbered_runs.specs.Stands.{IsThread};
 ghost use Rattle.core_types.specs.Types.{Types};
 ghost use Rattle.core_types.specs.Programs.{HasTypes};
