@@ -6,7 +6,7 @@ use Rattle.cc_ops.specs.declared.number.ThreadNo.{ThreadNo}
 use Rattle.cc_ops.specs.Shelves.{changed}
 use Rattle.code_names.specs.Same.{Pairwise}
 use Rattle.numbered_runs.proofs.Lists.{pairwise_right, pairwise_left, pairwise_length, pairwise_push, both_found, then_found, get_in_front, get_last, get_changed, get_unchanged}
-use Rattle.law_mesh.specs.Spots.{Spot, item_in, put_item, made_of}
+use Rattle.law_mesh.specs.Spots.{item_in, put_item, made_of}
 use Rattle.law_mesh.specs.Moves.{push_item, push_items, more_lists}
 
 module _ {A B : Type 0} (S : A → B → Type 0) where

@@ -20,7 +20,7 @@ use Rattle.numbered_runs.specs.Steps as numbered
 use Rattle.numbered_runs.proofs.Lists.{pairwise_append}
 use Rattle.law_mesh.specs.Spots.{Fiber, Reason, Cell, Lock, Branches, Spot, Active, Parked, Posted, Delayed, Answered, Calling, Called, Gone, Mesh}
 use Rattle.law_mesh.specs.Spots.{shown, runs, item_in, verdict, answered, answered_by, with_stranger, strangers, made_of}
-use Rattle.law_mesh.specs.Moves.{more_lists, AsksFor, is_away, effect_of, stepped, gone_on, values_given, acted, served, call_served, with_value, taken, with_spot}
+use Rattle.law_mesh.specs.Moves.{more_lists, AsksFor, effect_of, stepped, gone_on, values_given, acted, served, call_served, with_value, taken, with_spot}
 use Rattle.law_mesh.specs.Moves.{Moves, GoesSilently, Finishes, Acts, Parks, Rouses, Wakes, Holds, Sends, Serves, ServesCall, Delays, ResumesGet, Comes, Tells, Takes}
 use Rattle.law_mesh.specs.Moves.{FaultsAt, ActsBadly, ServedBadly, Step, own_step, served_step}
 use Rattle.cc_core.specs.Numbers.{Post}
