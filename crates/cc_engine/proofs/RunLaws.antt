@@ -4,6 +4,7 @@ use Rattle.std.proofs.lemmas.List.{length_push}
 use Rattle.std.specs.Prelude.{ℤ}
 use Rattle.std.specs.FinMap as fin
 use Rattle.cc_ops.specs.Values.{Int}
+use Rattle.cc_ops.specs.declared.number.ThreadNo.{ThreadNo}
 use Rattle.global_ptr.specs.declared.ends.ProgFault.{ProgFault}
 use Rattle.global_ptr.specs.declared.ends.Standing.{Standing}
 use Rattle.global_ptr.specs.declared.ends.Standing.TheVariants as standing
@@ -16,7 +17,6 @@ use Rattle.cc_core.proofs.StepLaws.{run_joined}
 use Rattle.core_types.proofs.Rest.{stands as stands_typed}
 use Rattle.numbered_runs.specs.Machine.{Machine}
 use Rattle.numbered_runs.specs.Stands.{Stands}
-use Rattle.cc_ops.specs.declared.number.ThreadNo.{ThreadNo}
 use Rattle.cc_walk.specs.Answers.{Follows}
 use Rattle.cc_walk.specs.Enabled.{IsFirst, CanMove}
 use Rattle.cc_walk.specs.declared.walk.Stepped.TheVariants as stepped

@@ -13,12 +13,12 @@ use Rattle.cc_core.specs.Steps as core
 use Rattle.effect_journal.specs.declared.entry.Entry.{Entry}
 use Rattle.effect_journal.specs.declared.entry.Entry.TheVariants.{Run, Serve, Make, End}
 use Rattle.effect_journal.specs.declared.entry.FaultBy.{FaultBy}
-use Rattle.cc_ops.specs.declared.number.ThreadNo.{ThreadNo}
 use Rattle.numbered_runs.specs.Alike.{IsLive}
 use Rattle.numbered_runs.specs.Stands.{IsThread}
 use Rattle.rsr_message.specs.declared.requests.Request.{Request}
 use Rattle.rsr_message.specs.Requests.{Spells, SpellsEither, version_2}
 use Rattle.rsr_message.specs.declared.versions.Version.TheVariants.{Two}
+use Rattle.cc_ops.specs.declared.number.ThreadNo.{ThreadNo}
 use Rattle.cc_explains.specs.declared.why.Why.{Why}
 use Rattle.cc_explains.specs.declared.why.Why.TheVariants.{NoThread, OtherRequest, NotEnabled, Faults, OtherEnd}
 use Rattle.cc_explains.specs.Places.{Place, Step, beginning, behind, Lead}

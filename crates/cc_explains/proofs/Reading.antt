@@ -10,12 +10,12 @@ use Rattle.cc_core.specs.Config.{Config}
 use Rattle.cc_core.specs.Steps as core
 use Rattle.effect_journal.specs.declared.entry.Entry.{Entry}
 use Rattle.effect_journal.specs.declared.entry.Entry.TheVariants.{Run, Serve, Make, End}
-use Rattle.cc_ops.specs.declared.number.ThreadNo.{ThreadNo}
 use Rattle.numbered_runs.specs.Stands.{IsThread}
 use Rattle.rsr_message.specs.declared.requests.Request.{Request}
 use Rattle.rsr_message.specs.Requests.{Spells, SpellsEither, version_2}
 use Rattle.rsr_message.specs.declared.versions.Version.TheVariants.{Two}
 use Rattle.rsr_message.proofs.RequestLaws.{one_request}
+use Rattle.cc_ops.specs.declared.number.ThreadNo.{ThreadNo}
 use Rattle.run_numbers.specs.RunNumbers.{IsNumbered, goes_on}
 use Rattle.cc_explains.specs.Places.{Place, Step, beginning, behind, Lead}
 use Rattle.cc_explains.specs.Moves.{asker}

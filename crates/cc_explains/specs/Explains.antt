@@ -8,10 +8,10 @@ use Rattle.cc_core.specs.Steps.{Stands}
 use Rattle.effect_journal.specs.declared.entry.Entry.{Entry}
 use Rattle.effect_journal.specs.declared.entry.Entry.TheVariants.{Run, Serve, Make, End}
 use Rattle.effect_journal.specs.declared.entry.FaultBy.{FaultBy}
-use Rattle.cc_ops.specs.declared.number.ThreadNo.{ThreadNo}
 use Rattle.numbered_runs.specs.Stands.{IsThread}
 use Rattle.rsr_message.specs.declared.requests.Request.{Request}
 use Rattle.rsr_message.specs.Requests.{Spells, version_2}
+use Rattle.cc_ops.specs.declared.number.ThreadNo.{ThreadNo}
 use Rattle.cc_explains.specs.Places.{Place, Step, beginning, Lead}
 use Rattle.cc_explains.specs.Moves.{posted_at, asker, IsNextRequest, IsServedAt, IsAtFault}
 

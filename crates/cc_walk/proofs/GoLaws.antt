@@ -3,19 +3,17 @@ use Rattle.std.proofs.Common.{◌≡◌, ℕ, true, false, List, [], ◌∷◌, 
 use Rattle.std.specs.Prelude.{option_to_list}
 use Rattle.global_ptr.specs.declared.values.Value.{Value as RustValue}
 use Rattle.cc_ops.specs.Values.{Value, Void}
-use Rattle.cc_ops.specs.Machine.{Address, value_of}
+use Rattle.cc_ops.specs.Machine.{Address, value_of, Values}
+use Rattle.cc_ops.specs.declared.number.ThreadNo.{ThreadNo}
+use Rattle.cc_ops.specs.Shelves.{Shelf}
 use Rattle.cc_core.specs.Asks as asks
 use Rattle.cc_core.specs.Asks.{Ask, Answer}
-use Rattle.cc_core.specs.Effects.{numbers}
+use Rattle.cc_core.specs.Effects.{numbers, is_call}
 use Rattle.cc_code.specs.Code.{Thread, Then, Starting, move}
 use Rattle.code_thread.specs.Moves.{IsAsk, after}
 use Rattle.code_thread.specs.View.{answer_of}
-use Rattle.cc_ops.specs.declared.number.ThreadNo.{ThreadNo}
 use Rattle.numbered_runs.specs.Machine.{Machine, Progress, Goes, Over, Runner, thread_in, put_thread, made_in}
-use Rattle.cc_ops.specs.Shelves.{Shelf}
-use Rattle.cc_ops.specs.Machine.{Values}
 use Rattle.numbered_runs.specs.Effects.{effect, start_home}
-use Rattle.cc_core.specs.Effects.{is_call}
 use Rattle.numbered_runs.specs.Steps.{its_effect, its_answer, its_new, new_home, new_numbers, tables, itself, freed, apply, settle, settle_all, push_all, more_tables, numbers_on}
 use Rattle.cc_walk.specs.Answered.{IsStarted, HasEffect, values_of, inside_after}
 use Rattle.cc_walk.specs.Asking.{IsAsking}

@@ -2,8 +2,8 @@
 use Rattle.std.proofs.Common.{◌≡◌, ℕ, zero, suc, List, [], ◌∷◌, ◌++◌, Option, Some, None, slice_get}
 use Rattle.std.specs.Option.{option_and_then}
 use Rattle.cc_ops.specs.declared.number.ThreadNo.{ThreadNo}
-use Rattle.numbered_runs.specs.Machine.{Progress, thread_in, push_thread}
 use Rattle.cc_ops.specs.Shelves.{changed}
+use Rattle.numbered_runs.specs.Machine.{Progress, thread_in, push_thread}
 use Rattle.numbered_runs.specs.Steps.{more_tables, push_all}
 
 in_longer : {X : Type 0} (xs ys : List X) (i : ℕ) (x : X) → slice_get xs i ≡ Some x → slice_get (xs ++ ys) i ≡ Some x

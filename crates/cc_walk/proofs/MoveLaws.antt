@@ -2,7 +2,7 @@
 use Rattle.std.proofs.Common.{◌≡◌, ℕ, ◌≤◌, List, [], length, false, Option, Some, None, refl, sym, ap, ◌∙◌, subst, arith}
 use Rattle.std.proofs.lemmas.Bool.{false≢true}
 use Rattle.std.proofs.lemmas.Option.{none-some, same_Some, slice_get_past}
-use Rattle.std.specs.Prelude.{IsTrue, ◌↔◌, not, slice_get, ℤ}
+use Rattle.std.specs.Prelude.{IsTrue, ◌↔◌, not, slice_get, ℤ, is_some}
 use Rattle.std.specs.Option as option
 use Rattle.std.specs.Option.{option_map, option_map_or, option_and_then}
 use Rattle.std.specs.FinMap as fin
@@ -10,23 +10,22 @@ use Rattle.cc_ops.specs.Values as values
 use Rattle.global_ptr.specs.declared.values.Value.{Value as RustValue}
 use Rattle.global_ptr.specs.declared.values.Value.TheVariants as machine
 use Rattle.cc_ops.specs.Machine.{Address, value_of}
+use Rattle.cc_ops.specs.declared.number.ThreadNo.{ThreadNo}
 use Rattle.cc_core.specs.Asks.{Ask, Answer}
 use Rattle.cc_core.specs.Names.{Name}
 use Rattle.cc_core.specs.Core.{Program, Shapes}
 use Rattle.cc_core.specs.Config.{Config, State, Live, Ended}
 use Rattle.cc_core.specs.Numbers.{Numbers}
 use Rattle.cc_core.specs.Steps as core
+use Rattle.cc_core.specs.Needs.{Verdict, Go, Hold, Bad}
 use Rattle.cc_code.specs.Code.{Then, Move, Silent, Does, Ends, Stuck, move}
 use Rattle.code_thread.specs.View.{look_of}
 use Rattle.code_thread.specs.declared.ask.Ask.{Ask as RustAsk}
 use Rattle.code_thread.specs.declared.ask.Look.{Look}
 use Rattle.code_thread.specs.declared.ask.Look.TheVariants as look
 use Rattle.code_thread.specs.Moves.{Asking, seen}
-use Rattle.cc_ops.specs.declared.number.ThreadNo.{ThreadNo}
 use Rattle.numbered_runs.specs.Machine.{Machine, Runner, Progress, Goes, Over, thread_in, made_in, ended_with}
-use Rattle.cc_core.specs.Needs.{Verdict, Go, Hold, Bad}
 use Rattle.numbered_runs.specs.Looks.{needs, check_all}
-use Rattle.std.specs.Prelude.{is_some}
 use Rattle.numbered_runs.specs.Stands.{Stands, IsThread, Alike, SameState}
 use Rattle.numbered_runs.specs.Steps.{Outcome, Gone, Waits, Faults, Moves, decide, join, act_asked, act, act_progress, step}
 use Rattle.numbered_runs.specs.Alike.{IsLive, DoesAlike, main_thread}
@@ -48,7 +47,7 @@ asks_nothing h (look.Ends v) never m looks line q asks = absurd (cc)
 asks_nothing h look.Stuck never m looks line q asks = absurd (cc)
 
 module _ (w : Machine) (t : ThreadNo) where
-  decided : (r : Runner) (line : ℕ) (q : Ask Address) (k : Answer Address → Then Address) (v : Verdict)
+  decided : (r : Runner) (line : ℕ) (q : Ask Address) (k : Answer Address → Then Address) (v : Verdict Address)
       → may_move (decide w t r line q k v) ≡ not (is_hold v)
   decided r line q k (Go found) = refl
   decided r line q k Hold = refl

@@ -4,19 +4,18 @@ use Rattle.std.specs.Prelude.{MatchResult, OnOk}
 use Rattle.std.specs.declared.alloc.AllocError.{AllocError}
 use Rattle.std.proofs.lemmas.Option.{none-some}
 use Rattle.global_ptr.specs.declared.ends.FaultKind.{FaultKind}
-use Rattle.cc_ops.specs.Machine.{Address}
+use Rattle.cc_ops.specs.Machine.{Address, Values}
+use Rattle.cc_ops.specs.declared.number.ThreadNo.{ThreadNo}
+use Rattle.cc_ops.specs.Shelves.{Shelf}
 use Rattle.cc_core.specs.Core.{Program}
 use Rattle.cc_core.specs.Config.{Config}
 use Rattle.cc_core.specs.Numbers.{Numbers}
 use Rattle.cc_core.specs.Asks.{Ask, Answer}
+use Rattle.cc_core.specs.Needs.{Verdict, Go, Hold, Bad}
 use Rattle.cc_code.specs.Code.{Then, Move, Silent, Does, Ends, Stuck, move}
 use Rattle.code_thread.specs.Moves.{Asking, seen}
-use Rattle.cc_ops.specs.declared.number.ThreadNo.{ThreadNo}
 use Rattle.numbered_runs.specs.Alike.{DoesAlike}
 use Rattle.numbered_runs.specs.Machine.{Machine, Progress, Goes, Over, Runner, thread_in, ended_with}
-use Rattle.cc_ops.specs.Shelves.{Shelf}
-use Rattle.cc_ops.specs.Machine.{Values}
-use Rattle.cc_core.specs.Needs.{Verdict, Go, Hold, Bad}
 use Rattle.numbered_runs.specs.Looks.{needs, check_all}
 use Rattle.numbered_runs.specs.Stands.{Stands}
 use Rattle.numbered_runs.specs.Steps.{Outcome, Gone, Waits, Faults, Moves, decide, join, act, act_asked, act_progress, step}
@@ -103,19 +102,19 @@ faults_follow {kind} {line} {after} p w s n st t is = follows p w s n st t (step
 
 -- ---- by what is answered
 
-pub holds : (v : Verdict) → is_hold v ≡ true → v ≡ Hold
+pub holds : (v : Verdict Address) → is_hold v ≡ true → v ≡ Hold
 holds (Go found) is = absurd (cc)
 holds Hold is = refl
 holds (Bad kind) is = absurd (cc)
 
 module _ (w : Machine) (q : ℕ) (r : Runner) (ask : Ask Address) (shelves : List Shelf) (output : List ℕ) where
-  pub goes_on : (v : Verdict) → is_hold v ≡ false → (e : Effect) → Answers w q r ask v (Ok e) shelves output
+  pub goes_on : (v : Verdict Address) → is_hold v ≡ false → (e : Effect) → Answers w q r ask v (Ok e) shelves output
       → (found : Values) × (v ≡ Go found) × HasEffect w q r ask found e shelves output
   goes_on (Go found) is e has = (found, refl, has)
   goes_on Hold is e has = absurd (cc)
   goes_on (Bad kind) is e has = absurd has
 
-  pub stops : (v : Verdict) → is_hold v ≡ false → (kind : FaultKind) → Answers w q r ask v (Err (stop.Fault kind)) shelves output
+  pub stops : (v : Verdict Address) → is_hold v ≡ false → (kind : FaultKind) → Answers w q r ask v (Err (stop.Fault kind)) shelves output
       → (v ≡ Bad kind) × (shelves ≡ w.shelves) × (output ≡ w.output)
   stops (Go found) is kind same = absurd same
   stops Hold is kind same = absurd (cc)

@@ -15,6 +15,7 @@ use Rattle.cc_ops.specs.Classes.{arity, all_kinds}
 use Rattle.cc_ops.specs.Values.{Value, Void, Int, Null, Ptr, no_void, as_kind, as_kinds, address_of, first, after_first}
 use Rattle.cc_ops.specs.Operators.{takes}
 use Rattle.cc_ops.specs.Machine.{Address, value_of}
+use Rattle.cc_ops.specs.declared.number.ThreadNo.{ThreadNo}
 use Rattle.cc_core.specs.Asks.{Ask}
 use Rattle.cc_core.specs.Config.{Config}
 use Rattle.cc_core.specs.Core.{Alone, On, Remote, How, Program, Shapes, function_shape, class_shape}
@@ -29,7 +30,6 @@ use Rattle.cc_code.specs.Code.{Placed, Code, Frame, Thread, Runs, Starting, Fini
 use Rattle.cc_code.specs.Code.{popped, with_popped, top_one, act, fetched, move}
 use Rattle.cc_code.specs.Valid.{IsValid, IsMisaimed, in_range, stays, well_aimed, function_at}
 use Rattle.code_thread.specs.Moves.{Asking, seen}
-use Rattle.cc_ops.specs.declared.number.ThreadNo.{ThreadNo}
 use Rattle.numbered_runs.specs.Machine.{Machine, Runner, Progress, Goes, Over, thread_in}
 use Rattle.numbered_runs.specs.Posts.{posted, move_posts, posts}
 use Rattle.numbered_runs.specs.Stands.{Stands, thread_named}

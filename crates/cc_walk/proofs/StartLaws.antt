@@ -3,6 +3,8 @@ use Rattle.std.proofs.Common.{◌≡◌, ℕ, zero, suc, List, [], ◌∷◌, ma
 use Rattle.std.specs.Prelude.{ℤ, get_or}
 use Rattle.cc_ops.specs.declared.shape.FunShape.{FunShape}
 use Rattle.cc_ops.specs.declared.kind.Kind.{Kind}
+use Rattle.cc_ops.specs.Shelves.{no_shelf}
+use Rattle.cc_ops.specs.Machine.{Values}
 use Rattle.cc_core.specs.Core.{Program, Function, no_shape, no_function}
 use Rattle.cc_core.specs.View.{program_of}
 use Rattle.cc_core.specs.declared.program.Program.{Program as TextProgram}
@@ -20,8 +22,6 @@ use Rattle.cc_types.specs.Program.{IsWellFormed, core_program}
 use Rattle.numbered_runs.specs.Alike.{first_machine, ints}
 use Rattle.numbered_runs.specs.Effects.{parameters, put_things, addresses}
 use Rattle.numbered_runs.specs.Machine.{Machine}
-use Rattle.cc_ops.specs.Shelves.{no_shelf}
-use Rattle.cc_ops.specs.Machine.{Values}
 use Rattle.numbered_runs.specs.Stands.{Stands}
 use Rattle.numbered_runs.specs.Steps.{settle}
 use Rattle.numbered_runs.proofs.Start.{run_begins}

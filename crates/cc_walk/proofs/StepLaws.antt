@@ -2,12 +2,12 @@
 use Rattle.std.proofs.Common.{◌≡◌, ℕ, zero, suc, List, [], ◌∷◌, None, refl, sym, ap, ◌∙◌, subst}
 use Rattle.cc_ops.specs.Values.{Value}
 use Rattle.cc_ops.specs.Machine.{Address}
+use Rattle.cc_ops.specs.declared.number.ThreadNo.{ThreadNo}
+use Rattle.cc_ops.specs.Shelves.{changed}
 use Rattle.cc_core.specs.Asks.{Ask, Answer}
 use Rattle.cc_code.specs.Code.{Thread, Then, Move, move}
 use Rattle.code_thread.specs.Moves.{IsAsk, after}
-use Rattle.cc_ops.specs.declared.number.ThreadNo.{ThreadNo}
 use Rattle.numbered_runs.specs.Machine.{Machine, Progress, Runner, put_thread}
-use Rattle.cc_ops.specs.Shelves.{changed}
 use Rattle.numbered_runs.specs.Steps.{settle, freed, joined}
 use Rattle.cc_walk.specs.Asking.{IsAsking}
 

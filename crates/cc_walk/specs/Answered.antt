@@ -1,17 +1,16 @@
 -- How what a thread asks is answered: as the machine of numbers answers it.
 use Rattle.std.specs.Prelude.{◌≡◌, ℕ, List, [], ◌∷◌, ◌++◌, map, Option, Some, None, Result, Ok, Err}
 use Rattle.cc_ops.specs.Values.{Value}
-use Rattle.cc_ops.specs.Machine.{Address, value_of}
+use Rattle.cc_ops.specs.Machine.{Address, value_of, Values}
+use Rattle.cc_ops.specs.Shelves.{Shelf}
 use Rattle.cc_core.specs.Asks.{Ask}
+use Rattle.cc_core.specs.Needs.{Verdict, Go, Hold, Bad}
+use Rattle.cc_core.specs.Effects.{left_behind, is_call, branch_count}
 use Rattle.cc_code.specs.Code.{Thread}
 use Rattle.numbered_runs.specs.Machine.{Machine, Runner}
-use Rattle.cc_ops.specs.Shelves.{Shelf}
-use Rattle.cc_ops.specs.Machine.{Values}
-use Rattle.cc_core.specs.Needs.{Verdict, Go, Hold, Bad}
 use Rattle.numbered_runs.specs.Looks.{needs, check_all}
 use Rattle.numbered_runs.specs.Effects as model
 use Rattle.numbered_runs.specs.Effects.{effect, write_all, more_shelves, put_things, addresses, held_after, start_home}
-use Rattle.cc_core.specs.Effects.{left_behind, is_call, branch_count}
 use Rattle.cc_walk.specs.Views.{inside_of, started}
 use Rattle.cc_walk.specs.declared.effect.Found.{Found}
 use Rattle.cc_walk.specs.declared.effect.Found.TheVariants as found
@@ -56,7 +55,7 @@ module _ (w : Machine) (q : ℕ) (r : Runner) (ask : Ask Address) where
     pub processors : e.processors ≡ (effect w q r ask found).processors
 
   -- Nothing is said where the thread has to wait, and after want of memory. A fault changes nothing.
-  abbrev pub Answers : Verdict → Result Effect Stop → List Shelf → List ℕ → Type 0
+  abbrev pub Answers : Verdict Address → Result Effect Stop → List Shelf → List ℕ → Type 0
   Answers (Go found) (Ok e) shelves output = HasEffect found e shelves output
   Answers (Bad kind) (Err (stop.Fault k)) shelves output = (k ≡ kind) × (shelves ≡ w.shelves) × (output ≡ w.output)
   Answers Hold result shelves output = Unit {0}

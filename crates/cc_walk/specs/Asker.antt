@@ -4,13 +4,13 @@ use Rattle.global_ptr.specs.declared.ends.FaultKind.{FaultKind}
 use Rattle.cc_ops.specs.Values.{Value}
 use Rattle.cc_ops.specs.Machine.{Address}
 use Rattle.cc_ops.specs.declared.shape.FunShape.{FunShape}
+use Rattle.cc_ops.specs.Shelves.{Shelf}
 use Rattle.cc_core.specs.Core.{Shapes, Remote}
 use Rattle.cc_core.specs.Asks.{Ask}
 use Rattle.cc_core.specs.Next.{call_ask, spawn_ask}
+use Rattle.cc_core.specs.Needs.{Verdict, Go, Bad}
 use Rattle.stack_code.specs.View.{code_of}
 use Rattle.numbered_runs.specs.Machine.{Machine}
-use Rattle.cc_ops.specs.Shelves.{Shelf}
-use Rattle.cc_core.specs.Needs.{Verdict, Go, Bad}
 use Rattle.cc_walk.specs.Answered.{IsAnswered}
 use Rattle.cc_walk.specs.Views.{runner_of}
 use Rattle.cc_walk.specs.declared.answer.Asker.{Asker}
@@ -30,7 +30,7 @@ AnswersAsk a ask old result new =
     (output : List ℕ) → IsAnswered (machine_with a old output) a.processor (runner_of a.live.now) ask result new output
 
 -- a need that finds no value is met, or is a fault
-abbrev pub IsMet : Verdict → Result (Unit {0}) FaultKind → Type 0
+abbrev pub IsMet : Verdict Address → Result (Unit {0}) FaultKind → Type 0
 IsMet verdict (Ok done) = verdict ≡ Go []
 IsMet verdict (Err kind) = verdict ≡ Bad kind
 

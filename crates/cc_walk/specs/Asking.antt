@@ -1,9 +1,9 @@
 -- A thread of a machine asks.
 use Rattle.std.specs.Prelude.{◌≡◌, ℕ, Some}
 use Rattle.cc_ops.specs.Machine.{Address}
+use Rattle.cc_ops.specs.declared.number.ThreadNo.{ThreadNo}
 use Rattle.cc_core.specs.Asks.{Ask, Answer}
 use Rattle.cc_code.specs.Code.{Then, Does, move}
-use Rattle.cc_ops.specs.declared.number.ThreadNo.{ThreadNo}
 use Rattle.numbered_runs.specs.Machine.{Machine, Runner, Goes, thread_in}
 
 -- thread t, which is r, asks at a line, and k is what follows the answer

@@ -1,12 +1,12 @@
 -- The machine of code whose first thread has entered a function.
 use Rattle.std.specs.Prelude.{ℕ, [], ◌∷◌, None}
 use Rattle.cc_ops.specs.Values.{Void}
+use Rattle.cc_ops.specs.Shelves.{no_shelf}
+use Rattle.cc_ops.specs.Machine.{Values}
 use Rattle.cc_core.specs.Core.{function_shape}
 use Rattle.cc_code.specs.Code.{Code, Runs, enter_at}
 use Rattle.numbered_runs.specs.Effects.{parameters, put_things, addresses}
 use Rattle.numbered_runs.specs.Machine.{Machine, Runner}
-use Rattle.cc_ops.specs.Shelves.{no_shelf}
-use Rattle.cc_ops.specs.Machine.{Values}
 use Rattle.numbered_runs.specs.Steps.{settle}
 
 -- function f is entered with these addresses of its parameters

@@ -2,6 +2,7 @@ ghost use Rattle.std.specs.Prelude.{◌≡◌, List, [], Bool, if◌then◌else�
 ghost use Rattle.cc_ops.specs.Classes as classes;
 ghost use Rattle.cc_ops.specs.Values as values;
 ghost use Rattle.cc_ops.specs.Machine.{value_of, cell_of, same_address, IsBuilt};
+ghost use Rattle.cc_ops.specs.Shelves.{Shelf, slots_in, home_in};
 ghost use Rattle.cc_core.specs.Core.{function_shape, class_shape};
 ghost use Rattle.cc_core.specs.Needs.{most_threads, most_slots, most_calls};
 ghost use Rattle.cc_core.specs.Next.{call_ask, spawn_ask};
@@ -9,7 +10,6 @@ ghost use Rattle.cc_core.specs.Asks as asks;
 ghost use Rattle.cc_core.specs.View.{how_of, part_of};
 ghost use Rattle.stack_code.specs.View.{code_of};
 ghost use Rattle.code_thread.specs.View.{ask_of};
-ghost use Rattle.cc_ops.specs.Shelves.{Shelf, slots_in, home_in};
 ghost use Rattle.numbered_runs.specs.Machine.{made_in};
 ghost use Rattle.numbered_runs.specs.Needs as needs;
 ghost use Rattle.cc_walk.specs.Answered.{IsAnswered};

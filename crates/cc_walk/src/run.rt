@@ -1,5 +1,6 @@
 ghost use Rattle.std.specs.Prelude.{◌≡◌, ℕ, ◌++◌, List, map, option_to_list, OnOk, IfOk, MatchResult};
-ghost use Rattle.cc_ops.specs.Machine.{Address, value_of};
+ghost use Rattle.cc_ops.specs.Machine.{Address, value_of, Values};
+ghost use Rattle.cc_ops.specs.Shelves.{Shelf};
 ghost use Rattle.cc_core.specs.Asks.{Ask as AskOf, Answer as AnswerOf};
 ghost use Rattle.cc_core.specs.Core.{Program};
 ghost use Rattle.cc_core.specs.Config.{Config};
@@ -9,8 +10,6 @@ ghost use Rattle.stack_code.specs.View.{code_of};
 ghost use Rattle.code_thread.specs.Moves.{after};
 ghost use Rattle.code_thread.specs.View.{answer_of};
 ghost use Rattle.numbered_runs.specs.Machine.{Machine, Runner, Goes, thread_in, put_thread, ended_with};
-ghost use Rattle.cc_ops.specs.Shelves.{Shelf};
-ghost use Rattle.cc_ops.specs.Machine.{Values};
 ghost use Rattle.numbered_runs.specs.Stands.{Stands};
 ghost use Rattle.numbered_runs.specs.Steps.{step, settle, freed, apply, join, joined};
 ghost use Rattle.cc_walk.specs.Answered.{HasEffect};

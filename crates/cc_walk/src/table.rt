@@ -2,9 +2,9 @@ ghost use Rattle.std.specs.Prelude.{◌≡◌, ◌+◌, ◌++◌, ◌∷◌, [],
 ghost use Rattle.std.specs.Option.{option_map};
 ghost use Rattle.cc_ops.specs.Values as values;
 ghost use Rattle.cc_ops.specs.Machine.{value_of};
+ghost use Rattle.cc_ops.specs.Shelves.{changed};
 ghost use Rattle.cc_core.specs.Needs.{most_threads};
 ghost use Rattle.numbered_runs.specs.Machine.{Over, thread_in, put_thread, push_thread, made_in, ended_with, going, all_going};
-ghost use Rattle.cc_ops.specs.Shelves.{changed};
 ghost use Rattle.numbered_runs.specs.Steps.{more_tables, push_all, settle_all, numbers_on};
 ghost use Rattle.stack_code.specs.View.{code_of};
 ghost use Rattle.cc_walk.specs.Views.{runner_of, progress_of, live_of};

@@ -6,12 +6,12 @@ use Rattle.std.specs.FinMap as fin
 use Rattle.std.proofs.lemmas.Option.{none-some, same_Some}
 use Rattle.cc_ops.specs.Values.{Value, Void, Int, Null, Ptr}
 use Rattle.cc_ops.specs.Machine.{Address}
+use Rattle.cc_ops.specs.declared.number.ThreadNo.{ThreadNo}
+use Rattle.cc_ops.specs.Shelves.{home_in}
 use Rattle.cc_core.specs.Config.{Config, State}
 use Rattle.cc_core.specs.Core.{Program}
 use Rattle.cc_core.specs.Numbers.{Numbers, Post, Get, Put, Call, Cast, Make, posts}
 use Rattle.code_names.specs.Same.{Pairwise}
-use Rattle.cc_ops.specs.declared.number.ThreadNo.{ThreadNo}
-use Rattle.cc_ops.specs.Shelves.{home_in}
 use Rattle.numbered_runs.specs.Stands.{IsThread}
 use Rattle.effect_journal.specs.declared.entry.Entry.{Entry}
 use Rattle.effect_journal.specs.declared.entry.Entry.TheVariants as entry

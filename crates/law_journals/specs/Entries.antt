@@ -4,12 +4,12 @@ use Rattle.global_ptr.specs.declared.ends.FaultKind.{FaultKind}
 use Rattle.global_ptr.specs.declared.ends.Standing.{Standing}
 use Rattle.cc_core.specs.Numbers.{Post}
 use Rattle.code_names.specs.Same.{Pairwise}
-use Rattle.cc_ops.specs.declared.number.ThreadNo.{ThreadNo}
 use Rattle.effect_journal.specs.declared.entry.Entry.{Entry}
 use Rattle.effect_journal.specs.declared.entry.Entry.TheVariants as entry
 use Rattle.effect_journal.specs.declared.entry.FaultBy.{FaultBy}
 use Rattle.rsr_message.specs.declared.requests.Request.{Request}
 use Rattle.rsr_message.specs.Requests.{Spells, version_2}
+use Rattle.cc_ops.specs.declared.number.ThreadNo.{ThreadNo}
 use Rattle.cc_walk.specs.Posted.{IsFrom}
 use Rattle.law_mesh.specs.Queues.{Asks, Answers}
 use Rattle.law_rounds.specs.Turn.{Note, Ran, Served, Made}

@@ -4,23 +4,21 @@ use Rattle.std.specs.Prelude.{slice_get}
 use Rattle.std.specs.Option.{option_map_or}
 use Rattle.std.proofs.lemmas.Option.{same_Some}
 use Rattle.cc_ops.specs.Values.{Value}
-use Rattle.cc_ops.specs.Machine.{Address}
+use Rattle.cc_ops.specs.Machine.{Address, Values}
 use Rattle.cc_core.specs.Core.{Shapes, function_shape}
 use Rattle.cc_ops.specs.declared.kind.Kind.{Kind}
-use Rattle.cc_core.specs.Effects.{numbers}
+use Rattle.cc_ops.specs.declared.number.ThreadNo.{ThreadNo}
+use Rattle.cc_ops.specs.Shelves.{Shelf, changed}
+use Rattle.cc_core.specs.Effects.{numbers, left_behind, branch_count}
 use Rattle.cc_core.specs.Asks.{Ask, Answer}
 use Rattle.cc_core.specs.Asks.{Reads, Writes, Copies, Indexes, Shifts, Computes, Tests, Makes, MakesWith, Builds, Enters, Leaves}
 use Rattle.cc_core.specs.Asks.{ForksAll, ForksOne, Joins, Spawns, Prints, Calls, Casts, NewProcessor}
 use Rattle.cc_code.specs.Code.{Then}
-use Rattle.cc_ops.specs.declared.number.ThreadNo.{ThreadNo}
-use Rattle.cc_ops.specs.Shelves.{Shelf, changed}
-use Rattle.cc_ops.specs.Machine.{Values}
 use Rattle.numbered_runs.specs.Effects.{Effect, more_shelves, start_home, write_all, put_things, addresses, held_after, parameters}
-use Rattle.cc_core.specs.Effects.{left_behind, branch_count}
 use Rattle.numbered_runs.specs.Steps.{settle, freed, numbers_on}
 use Rattle.numbered_runs.proofs.Lists.{get_changed}
-use Rattle.law_mesh.specs.Spots.{Fiber, Spot, Active, Mesh, runs, put_item}
-use Rattle.law_mesh.specs.Moves.{effect_of, push_item, push_items, more_lists, made_of, new_spots, known, acted, gone_on}
+use Rattle.law_mesh.specs.Spots.{Fiber, Spot, Active, Mesh, runs, put_item, made_of}
+use Rattle.law_mesh.specs.Moves.{effect_of, push_item, push_items, more_lists, new_spots, known, acted, gone_on}
 use Rattle.law_mesh.specs.Local.{Place, place_after, AsksOn, AreOn, write_all_on, put_all_on, held_after_on, freed_on, addresses_on}
 use Rattle.law_mesh.proofs.Local.{changed_twice, changed_alike, changed_same, ChangesOn, nothing_on, then_on, values_on, made_on, addresses_here, noted_on, left_on, freed_at, WritesOn, MadeOn}
 

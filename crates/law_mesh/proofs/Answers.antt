@@ -2,22 +2,19 @@
 use Rattle.std.proofs.Common.{◌≡◌, ℕ, zero, suc, List, [], ◌∷◌, length, false, ◌&&◌, Option, Some, None, refl, sym, ap, ◌∙◌}
 use Rattle.std.specs.Prelude.{slice_get, if◌then◌else◌}
 use Rattle.std.specs.Option.{option_and_then, option_map_or}
+use Rattle.global_ptr.specs.declared.ends.FaultKind.TheVariants.{ThreadsFull, StoreFull}
 use Rattle.cc_ops.specs.Values.{Value, Void, Int, Null, Ptr}
 use Rattle.cc_ops.specs.Machine.{Address}
+use Rattle.cc_ops.specs.declared.number.ThreadNo.{ThreadNo}
+use Rattle.cc_ops.specs.Shelves.{Thing, Shelf, home_in, thing_in, slots_in}
 use Rattle.cc_core.specs.Core.{function_shape}
 use Rattle.cc_core.specs.Asks.{Ask, Reads, Writes, Copies, Indexes, Shifts, Computes, Tests, Makes, MakesWith, Builds, Enters, Leaves}
 use Rattle.cc_core.specs.Asks.{ForksAll, ForksOne, Joins, Spawns, Prints, Calls, Casts, NewProcessor}
-use Rattle.cc_core.specs.Needs.{most_threads, most_slots}
-use Rattle.global_ptr.specs.declared.ends.FaultKind.TheVariants.{ThreadsFull, StoreFull}
-use Rattle.cc_ops.specs.declared.number.ThreadNo.{ThreadNo}
-use Rattle.cc_ops.specs.Shelves.{Thing, Shelf, home_in, thing_in, slots_in}
-use Rattle.numbered_runs.specs.Machine.{made_in}
-use Rattle.cc_core.specs.Needs.{Need, Filled, Unfilled, AllCells, Free, Threads, ThreadAt, Slots}
-use Rattle.cc_core.specs.Needs.{Go, Hold, and_also, room, read, writable, all_in}
-use Rattle.numbered_runs.specs.Looks.{needs, check, check_all}
-use Rattle.law_mesh.specs.Spots.{Fiber, Spot, Mesh, shown, runs, counted, verdict, is_gone, spot_of, kid_gone, all_gone}
+use Rattle.cc_core.specs.Needs.{Need, Filled, Unfilled, AllCells, Free, Done, Threads, ThreadAt, Slots, verdict_on, verdict_on_all, and_also}
+use Rattle.cc_core.specs.Needs.{Go, Hold, room, read, writable, all_in, all_of, most_threads, most_slots}
+use Rattle.numbered_runs.specs.Looks.{needs}
+use Rattle.law_mesh.specs.Spots.{Fiber, Spot, Mesh, made_of, looks, verdict, is_gone, kid_gone}
 use Rattle.law_mesh.specs.Local.{IsOn, KidsOn, AnsweredOn, LeadsTo}
-use Rattle.law_mesh.proofs.Lists.{same_counted}
 
 -- the code is the same, word for word
 module _ (h q : ℕ) (m : Mesh) (shelves : List Shelf) (spots : List (List Spot)) (shelf : slice_get m.shelves h ≡ slice_get shelves h)
@@ -30,17 +27,15 @@ module _ (h q : ℕ) (m : Mesh) (shelves : List Shelf) (spots : List (List Spot)
       ap (λ o. option_and_then (λ (s : Shelf). slice_get s.things a.object) o)
       (ap (slice_get m.shelves) e ∙ (shelf ∙ ap (slice_get shelves) (sym e)))
 
-  made_alike : (p : ℕ) → p ≡ h → made_in (counted m.spots) p ≡ made_in (counted spots) p
+  made_alike : (p : ℕ) → p ≡ h → made_of m.spots p ≡ made_of spots p
   made_alike p e =
-      same_counted m.spots p
-      ∙ (ap (λ o. option_map_or (λ (ps : List Spot). length ps) o 0) (ap (slice_get m.spots) e ∙ (row ∙ ap (slice_get spots) (sym e)))
-      ∙ sym (same_counted spots p))
+      ap (λ o. option_map_or (λ (ps : List Spot). length ps) o 0) (ap (slice_get m.spots) e ∙ (row ∙ ap (slice_get spots) (sym e)))
 
   slots_alike : q ≡ h → slots_in m.shelves q ≡ slots_in shelves q
   slots_alike e = ap (λ o. option_map_or (λ (s : Shelf). s.slots) o 0) (ap (slice_get m.shelves) e ∙ (shelf ∙ ap (slice_get shelves) (sym e)))
 
-  abbrev AnswersNeed : Need → Type 0
-  AnswersNeed need = check (shown m (counted m.spots)) q (runs f None []) need ≡ check (shown other (counted spots)) q (runs f None []) need
+  abbrev AnswersNeed : Need Address → Type 0
+  AnswersNeed need = verdict_on m.code.shapes (looks m q f) need ≡ verdict_on m.code.shapes (looks other q f) need
 
   filled : (a : Value Address) → IsOn h a → AnswersNeed (Filled a)
   filled Void on = refl
@@ -67,19 +62,18 @@ module _ (h q : ℕ) (m : Mesh) (shelves : List Shelf) (spots : List (List Spot)
   free g (Ptr a x) on =
       ap (λ o. if (function_shape m.code.shapes g).atomic && option_map_or (λ (t : Thing). t.held) o false then Hold else Go []) (thing_alike a on)
 
-  abbrev AnswersAll : List Need → Type 0
-  AnswersAll ns = check_all (shown m (counted m.spots)) q (runs f None []) ns ≡ check_all (shown other (counted spots)) q (runs f None []) ns
+  abbrev AnswersAll : List (Need Address) → Type 0
+  AnswersAll ns = verdict_on_all m.code.shapes (looks m q f) ns ≡ verdict_on_all m.code.shapes (looks other q f) ns
 
-  both : (need : Need) (ns : List Need) → AnswersNeed need → AnswersAll ns → AnswersAll (need ∷ ns)
+  both : (need : Need Address) (ns : List (Need Address)) → AnswersNeed need → AnswersAll ns → AnswersAll (need ∷ ns)
   both need ns a b =
-      ap (λ z. and_also z (check_all (shown m (counted m.spots)) q (runs f None []) ns)) a
-      ∙ ap (λ z. and_also (check (shown other (counted spots)) q (runs f None []) need) z) b
+      ap (λ z. and_also z (verdict_on_all m.code.shapes (looks m q f) ns)) a ∙ ap (and_also (verdict_on m.code.shapes (looks other q f) need)) b
 
-  abbrev AnswersEach : List Need → Type 0
+  abbrev AnswersEach : List (Need Address) → Type 0
   AnswersEach [] = Unit {0}
   AnswersEach (need ∷ ns) = AnswersNeed need × AnswersEach ns
 
-  all : (ns : List Need) → AnswersEach ns → AnswersAll ns
+  all : (ns : List (Need Address)) → AnswersEach ns → AnswersAll ns
   all [] h = refl
   all (need ∷ ns) h = both need ns h.0 (all ns h.1)
 
@@ -94,8 +88,7 @@ module _ (h q : ℕ) (m : Mesh) (shelves : List Shelf) (spots : List (List Spot)
 
   -- ---- branches
 
-  kid_at : (kids : List (Option ThreadNo)) → KidsOn h kids → (k : ℕ)
-      → is_gone (option_and_then (spot_of m.spots) (slice_get kids k)) ≡ is_gone (option_and_then (spot_of spots) (slice_get kids k))
+  kid_at : (kids : List (Option ThreadNo)) → KidsOn h kids → (k : ℕ) → kid_gone m.spots kids k ≡ kid_gone spots kids k
   kid_at [] on k = refl
   kid_at (None ∷ kids) on zero = refl
   kid_at (Some t ∷ kids) on zero =
@@ -103,12 +96,11 @@ module _ (h q : ℕ) (m : Mesh) (shelves : List Shelf) (spots : List (List Spot)
       (ap (slice_get m.spots) on.0 ∙ (row ∙ ap (slice_get spots) (sym on.0)))
   kid_at (kid ∷ kids) on (suc k) = kid_at kids on.1 k
 
-  kids_at : KidsOn h f.kids → (ks : List ℕ) → all_gone m.spots f.kids ks ≡ all_gone spots f.kids ks
-  kids_at on [] = refl
-  kids_at on (k ∷ ks) = ap (λ b. b && all_gone m.spots f.kids ks) (kid_at f.kids on k) ∙ ap (λ b. kid_gone spots f.kids k && b) (kids_at on ks)
+  done : (made : List ℕ) → KidsOn h f.kids → AnswersNeed (Done made)
+  done made on = λ i. if all_of (λ k. kid_at f.kids on k i) made then Go [] else Hold
 
   pub answered_alike : (ask : Ask Address) → AnsweredOn h q f ask → verdict m q f ask ≡ verdict other q f ask
-  answered_alike (Joins made) on = ap (λ b. if b then Go [] else Hold) (kids_at on made)
+  answered_alike (Joins made) on = all (needs m.code.shapes (Joins made)) (done made on, tt)
   answered_alike (Reads remote a) on = all (needs m.code.shapes (Reads remote a)) (filled a on, tt)
   answered_alike (Writes remote a v) on = all (needs m.code.shapes (Writes remote a v)) (unfilled a on, tt)
   answered_alike (Copies a n) on = all (needs m.code.shapes (Copies a n)) (all_cells a n on, tt)

@@ -1,23 +1,21 @@
 -- What a step makes of the machine that a mesh shows is shown by what it makes of the mesh.
 use Rattle.std.proofs.Common.{◌≡◌, ℕ, List, [], ◌∷◌, ◌++◌, length, Bool, true, false, Option, Some, None, refl, sym, ap, ◌∙◌, subst}
 use Rattle.cc_ops.specs.Values.{Value}
-use Rattle.cc_ops.specs.Machine.{Address}
+use Rattle.cc_ops.specs.Machine.{Address, Values}
+use Rattle.cc_ops.specs.declared.number.ThreadNo.{ThreadNo}
+use Rattle.cc_ops.specs.Shelves.{Shelf}
 use Rattle.cc_core.specs.Asks.{Ask, Answer}
 use Rattle.cc_core.specs.Asks.{Reads, Writes, Copies, Indexes, Shifts, Computes, Tests, Makes, MakesWith, Builds, Enters, Leaves}
 use Rattle.cc_core.specs.Asks.{ForksAll, ForksOne, Joins, Spawns, Prints, Calls, Casts, NewProcessor}
-use Rattle.cc_core.specs.Effects.{numbers}
+use Rattle.cc_core.specs.Effects.{numbers, branch_count, is_call}
 use Rattle.cc_code.specs.Code.{Code, Thread, Then}
 use Rattle.code_names.specs.Same.{Pairwise}
-use Rattle.cc_ops.specs.declared.number.ThreadNo.{ThreadNo}
 use Rattle.numbered_runs.specs.Machine.{Machine, Runner, Progress, Goes, Over, thread_in, put_thread, made_in, ended_with}
-use Rattle.cc_ops.specs.Shelves.{Shelf}
-use Rattle.cc_ops.specs.Machine.{Values}
 use Rattle.numbered_runs.specs.Effects.{Effect, effect, start_home, write_all, more_shelves, put_things, addresses, held_after}
-use Rattle.cc_core.specs.Effects.{branch_count, is_call}
 use Rattle.numbered_runs.specs.Steps.{settle, freed, settle_all, more_tables, push_all, numbers_on, apply, itself}
 use Rattle.numbered_runs.proofs.Lists.{pairwise_append, pairwise_length, pairwise_kept}
-use Rattle.law_mesh.specs.Spots.{Fiber, Spot, Active, Parked, Posted, Delayed, Answered, Calling, Called, Gone, Mesh, shown, runs, item_in}
-use Rattle.law_mesh.specs.Moves.{new_spots, known, effect_of, made_of, more_lists, push_items, stepped, gone_on}
+use Rattle.law_mesh.specs.Spots.{Fiber, Spot, Active, Parked, Posted, Delayed, Answered, Calling, Called, Gone, Mesh, shown, runs, item_in, made_of}
+use Rattle.law_mesh.specs.Moves.{new_spots, known, effect_of, more_lists, push_items, stepped, gone_on}
 use Rattle.law_mesh.specs.Shows.{IsKid, Alike, Shows}
 use Rattle.law_mesh.proofs.Lists.{both_put, both_more, both_pushed, same_made, stays_more, stays_pushed, stays_put}
 use Rattle.law_mesh.proofs.Settle.{freed_alike}

@@ -1,14 +1,13 @@
 -- What a request's step makes: a call and a cast one thread, any other none.
 use Rattle.std.proofs.Common.{◌≡◌, ℕ, List, [], ◌∷◌, ◌++◌, true, false, Option, None, refl, sym}
 use Rattle.std.proofs.lemmas.Bool.{false≢true}
-use Rattle.cc_ops.specs.Machine.{Address}
+use Rattle.cc_ops.specs.Machine.{Address, Values}
+use Rattle.cc_ops.specs.declared.number.ThreadNo.{ThreadNo}
 use Rattle.cc_core.specs.Asks.{Ask}
 use Rattle.cc_core.specs.Asks.{Reads, Writes}
 use Rattle.cc_core.specs.Asks.{Calls, Casts, NewProcessor}
-use Rattle.code_names.specs.Same.{Pairwise}
-use Rattle.cc_ops.specs.declared.number.ThreadNo.{ThreadNo}
-use Rattle.cc_ops.specs.Machine.{Values}
 use Rattle.cc_core.specs.Effects.{branch_count, is_call}
+use Rattle.code_names.specs.Same.{Pairwise}
 use Rattle.numbered_runs.specs.Steps.{numbers_on}
 use Rattle.law_mesh.specs.Spots.{Fiber, Mesh, strangers}
 use Rattle.law_mesh.specs.Moves.{is_away, effect_of}

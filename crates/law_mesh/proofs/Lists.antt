@@ -2,12 +2,12 @@
 use Rattle.std.proofs.Common.{◌≡◌, ◌⊎◌, inl, inr, ⊎_elim, ℕ, zero, suc, List, [], ◌∷◌, ◌++◌, length, map, slice_get, Some, refl, sym, ap, ◌∙◌, subst}
 use Rattle.std.specs.Option.{option_and_then}
 use Rattle.std.proofs.lemmas.Option.{none-some, same_Some}
-use Rattle.code_names.specs.Same.{Pairwise}
 use Rattle.cc_ops.specs.declared.number.ThreadNo.{ThreadNo}
 use Rattle.cc_ops.specs.Shelves.{changed}
+use Rattle.code_names.specs.Same.{Pairwise}
 use Rattle.numbered_runs.proofs.Lists.{pairwise_right, pairwise_left, pairwise_length, pairwise_push, both_found, then_found, get_in_front, get_last, get_changed, get_unchanged}
-use Rattle.law_mesh.specs.Spots.{Spot, item_in, put_item, counted, some_progress}
-use Rattle.law_mesh.specs.Moves.{push_item, push_items, more_lists, made_of}
+use Rattle.law_mesh.specs.Spots.{item_in, put_item, made_of}
+use Rattle.law_mesh.specs.Moves.{push_item, push_items, more_lists}
 
 module _ {A B : Type 0} (S : A → B → Type 0) where
   abbrev pub Tables : List (List A) → List (List B) → Type 0
@@ -82,15 +82,6 @@ module _ {A B : Type 0} (S : A → B → Type 0) where
   both_pushed q (x ∷ xs) (y ∷ ys) new us vs h =
       both_pushed q xs ys new.1 (push_item us q x) (push_item vs q y)
       (both_changed_one (Pairwise S) us vs q _ _ (λ a b _ _ g. pairwise_push S a b x y g new.0) h)
-
-pub same_counted : (us : List (List Spot)) (q : ℕ) → made_of (counted us) q ≡ made_of us q
-same_counted [] q = refl
-same_counted (u ∷ us) zero = mapped u
-  where
-    mapped : (ps : List Spot) → length (map some_progress ps) ≡ length ps
-    mapped [] = refl
-    mapped (p ∷ ps) = ap suc (mapped ps)
-same_counted (u ∷ us) (suc q) = same_counted us q
 
 -- Items that stay where others are made, or where one that is another is changed.
 module _ {A : Type 0} where

@@ -5,9 +5,9 @@ use Rattle.std.specs.Option.{option_and_then, option_map_or}
 use Rattle.cc_ops.specs.Values.{Value, Cell, Void, Int, Null, Ptr, Result, Gives, Fails}
 use Rattle.cc_ops.specs.Cells.{written}
 use Rattle.cc_ops.specs.Machine.{Address}
+use Rattle.cc_ops.specs.Shelves.{Thing, Shelf, changed, cell_in, put_held, put_thing, next_address, change_thing}
 use Rattle.cc_core.specs.Core.{Shapes, function_shape}
 use Rattle.cc_code.specs.Code.{Code}
-use Rattle.cc_ops.specs.Shelves.{Thing, Shelf, changed, cell_in, put_held, put_thing, next_address, change_thing}
 use Rattle.numbered_runs.specs.Machine.{Progress, Goes, Over}
 use Rattle.numbered_runs.specs.Effects.{put_written, write_at, write_value, write_all, put_things, addresses, note_held, leave, leave_all}
 use Rattle.numbered_runs.specs.Steps.{freed}

@@ -1,39 +1,36 @@
 -- Each move of a mesh leaves the machine that it shows, or is the step of a thread of it; and its faults are the machine's.
 use Rattle.std.proofs.Common.{◌≡◌, ℕ, List, [], ◌∷◌, ◌++◌, length, Bool, true, false, Option, Some, None, refl, sym, ap, ◌∙◌, subst}
 use Rattle.std.proofs.lemmas.Option.{same_Some}
+use Rattle.std.specs.Prelude.{is_some, if◌then◌else◌}
 use Rattle.global_ptr.specs.declared.ends.FaultKind.{FaultKind}
 use Rattle.cc_ops.specs.Values.{Value}
-use Rattle.cc_ops.specs.Machine.{Address}
+use Rattle.cc_ops.specs.Machine.{Address, Values}
+use Rattle.cc_ops.specs.declared.number.ThreadNo.{ThreadNo}
 use Rattle.cc_core.specs.Asks.{Ask, Answer}
-use Rattle.cc_core.specs.Effects.{numbers}
+use Rattle.cc_core.specs.Effects.{numbers, is_call}
 use Rattle.cc_code.specs.Code.{Code, Then, Does, move}
 use Rattle.cc_code.specs.Settles.{Settles}
 use Rattle.code_names.specs.Same.{Pairwise}
-use Rattle.cc_ops.specs.declared.number.ThreadNo.{ThreadNo}
 use Rattle.numbered_runs.specs.Machine.{Runner, Progress, Goes, thread_in, put_thread, made_in, ended_with}
-use Rattle.cc_ops.specs.Machine.{Values}
-use Rattle.cc_core.specs.Needs.{Verdict, Go, Bad}
 use Rattle.numbered_runs.specs.Looks.{needs, check_all}
 use Rattle.numbered_runs.specs.Effects.{Effect, start_home}
-use Rattle.cc_core.specs.Effects.{is_call}
 use Rattle.numbered_runs.specs.Stands.{IsAsk}
 use Rattle.numbered_runs.specs.Steps.{settle, freed, step, act, act_progress, decide, join, joined, resumed, numbers_on, more_tables}
 use Rattle.numbered_runs.specs.Steps as numbered
 use Rattle.numbered_runs.proofs.Lists.{pairwise_append}
 use Rattle.law_mesh.specs.Spots.{Fiber, Reason, Cell, Lock, Branches, Spot, Active, Parked, Posted, Delayed, Answered, Calling, Called, Gone, Mesh}
-use Rattle.law_mesh.specs.Spots.{shown, runs, item_in, verdict, answered, answered_by, with_stranger, strangers}
-use Rattle.law_mesh.specs.Moves.{more_lists, made_of, AsksFor, is_away, effect_of, stepped, gone_on, values_given, acted, served, call_served, with_value, taken, with_spot}
+use Rattle.law_mesh.specs.Spots.{shown, runs, item_in, verdict, answered, answered_by, with_stranger, strangers, made_of}
+use Rattle.law_mesh.specs.Moves.{more_lists, AsksFor, effect_of, stepped, gone_on, values_given, acted, served, call_served, with_value, taken, with_spot}
 use Rattle.law_mesh.specs.Moves.{Moves, GoesSilently, Finishes, Acts, Parks, Rouses, Wakes, Holds, Sends, Serves, ServesCall, Delays, ResumesGet, Comes, Tells, Takes}
 use Rattle.law_mesh.specs.Moves.{FaultsAt, ActsBadly, ServedBadly, Step, own_step, served_step}
 use Rattle.cc_core.specs.Numbers.{Post}
-use Rattle.std.specs.Prelude.{is_some}
+use Rattle.cc_core.specs.Needs.{Verdict, Go, Bad}
 use Rattle.numbered_runs.specs.Posts.{posted, posts, move_posts}
 use Rattle.law_mesh.specs.Shows.{IsKid, GoesOn, StandsAt, Alike, Shows, IsShown, IsPosted}
 use Rattle.law_mesh.proofs.Apply.{apply_is, stepped_is, threads_alike, goes_on, next_alike, gone, after, itself_by, numbers_by, stay_over, all_still_alike}
 use Rattle.law_mesh.proofs.Away.{IsPlain, away_plain, call_plain}
 use Rattle.law_mesh.proofs.Branches.{ForksNone, moves_fork_none}
 use Rattle.law_mesh.proofs.Lists.{item_right, left_put, left_mapped, both_put}
-use Rattle.std.specs.Prelude.{if◌then◌else◌}
 use Rattle.law_mesh.specs.Queues.{OfCell, same_queue, woken}
 use Rattle.law_mesh.proofs.Settle.{Asks, does, it_asks, settle_asks, settle_ends, settle_goes, freed_alike, step_is}
 use Rattle.law_mesh.proofs.Verdict.{Agrees, verdict_alike}
@@ -76,7 +73,7 @@ module _ (m : Mesh) (threads : List (List Progress)) (shows : Shows m threads) w
 
   pub decided : (t : ThreadNo) (f : Fiber) (kids : List ThreadNo) (line : ℕ) (ask : Ask Address) (k : Answer Address → Then Address)
       → move m.code f.thread ≡ Does line ask k → thread_in threads t ≡ Some (Goes (runs f None kids))
-      → (v : Verdict) → check_all (shown m threads) t.processor (runs f None kids) (needs m.code.shapes ask) ≡ v
+      → (v : Verdict Address) → check_all (shown m threads) t.processor (runs f None kids) (needs m.code.shapes ask) ≡ v
       → step (shown m threads) t ≡ decide (shown m threads) t (runs f None kids) line ask k v
   decided t f kids line ask k asks at v e =
       step_is (shown m threads) t (Goes (runs f None kids)) at
@@ -88,7 +85,7 @@ module _ (m : Mesh) (threads : List (List Progress)) (shows : Shows m threads) w
     goes : thread_in threads t ≡ Some (Goes (runs f None at.kids))
     goes = there ∙ ap (λ y. Some y) at.is
 
-    agrees : (v : Verdict) → verdict m t.processor f ask ≡ v → Agrees v (check_all (shown m threads) t.processor (runs f None at.kids) (needs m.code.shapes ask))
+    agrees : (v : Verdict Address) → verdict m t.processor f ask ≡ v → Agrees v (check_all (shown m threads) t.processor (runs f None at.kids) (needs m.code.shapes ask))
     agrees v e = subst (λ u. Agrees u (check_all (shown m threads) t.processor (runs f None at.kids) (needs m.code.shapes ask))) e
         (verdict_alike m threads shows t.processor f at.kids at.same ask)
 

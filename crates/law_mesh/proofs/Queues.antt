@@ -7,8 +7,7 @@ use Rattle.law_mesh.specs.Moves.{push_item}
 use Rattle.std.proofs.lemmas.Bool.{false≢true}
 use Rattle.std.proofs.lemmas.Bool.Decides.{nat_tests}
 use Rattle.cc_ops.specs.Values.{Value}
-use Rattle.cc_ops.specs.Machine.{Address}
-use Rattle.cc_ops.specs.Machine.{Values}
+use Rattle.cc_ops.specs.Machine.{Address, Values}
 use Rattle.cc_ops.specs.declared.number.ThreadNo.{ThreadNo}
 use Rattle.law_mesh.specs.Spots.{Fiber, Cell, Lock, Branches, Spot, Active, Parked, Posted, Delayed, Answered, Calling, Called, Gone, item_in, put_item}
 use Rattle.law_mesh.specs.Rest.{IsStill}

@@ -1,20 +1,19 @@
 -- Where a mesh is idle, no thread of the machine that it shows can move, and as many go on.
 use Rattle.std.proofs.Common.{◌≡◌, inl, inr, ⊎_elim, ℕ, suc, ◌+◌, List, [], ◌∷◌, Bool, true, false, ◌&&◌, Option, Some, None, refl, sym, ap, ◌∙◌}
-use Rattle.std.specs.Prelude.{slice_get, if◌then◌else◌}
+use Rattle.std.specs.Prelude.{slice_get, if◌then◌else◌, is_some}
 use Rattle.std.specs.Option.{option_and_then}
 use Rattle.cc_ops.specs.Values.{Value, Ptr, Empty}
 use Rattle.cc_ops.specs.Machine.{Address}
 use Rattle.cc_core.specs.Asks.{Ask, Answer, Reads, Enters, Joins}
 use Rattle.cc_core.specs.Core.{function_shape}
+use Rattle.cc_core.specs.Needs.{Verdict, Go, Hold, and_also, read, Deeper, Slots}
 use Rattle.cc_ops.specs.Classes.{arity}
+use Rattle.cc_ops.specs.declared.number.ThreadNo.{ThreadNo}
+use Rattle.cc_ops.specs.Shelves.{cell_in, is_held}
 use Rattle.cc_code.specs.Code.{Then, Does, move}
 use Rattle.code_names.specs.Same.{Pairwise}
-use Rattle.cc_ops.specs.declared.number.ThreadNo.{ThreadNo}
 use Rattle.numbered_runs.specs.Machine.{Runner, Progress, Goes, Over, thread_in, ended_with, going, all_going}
-use Rattle.cc_ops.specs.Shelves.{cell_in, is_held}
-use Rattle.cc_core.specs.Needs.{Verdict, Go, Hold, and_also, read, Deeper, Slots}
 use Rattle.numbered_runs.specs.Looks.{needs, check_all, has_ended, all_ended}
-use Rattle.std.specs.Prelude.{is_some}
 use Rattle.numbered_runs.specs.Steps.{act, join}
 use Rattle.numbered_runs.proofs.Lists.{pairwise_right}
 use Rattle.law_mesh.specs.Spots.{Fiber, Cell, Lock, Branches, Spot, Active, Parked, Delayed, Calling, Gone, Mesh, shown, runs, item_in, with_stranger}
@@ -42,7 +41,7 @@ module _ (m : Mesh) (threads : List (List Progress)) (shows : Shows m threads) w
         (ap (λ b. and_also (Go []) (and_also (if b && is_held m.shelves (Ptr o i) then Hold else Go []) (rest g))) atomic
         ∙ ap (λ b. and_also (Go []) (and_also (if b then Hold else Go []) (rest g))) held)
       where
-        rest : ℕ → Verdict
+        rest : ℕ → Verdict Address
         rest g = check_all (shown m threads) t.processor (runs f None at.kids) (Deeper ∷ Slots (arity (function_shape m.code.shapes g).params) ∷ [])
 
   module _ (order : InOrder m) (idle : IsIdle m) where

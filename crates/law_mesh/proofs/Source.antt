@@ -12,13 +12,13 @@ use Rattle.law_mesh.specs.Begins.{first_mesh}
 use Rattle.law_mesh.proofs.Begins.{first_shown}
 use Rattle.cc_follows.proofs.Program.{layout_settles}
 use Rattle.global_ptr.specs.declared.ends.FaultKind.{FaultKind}
+use Rattle.cc_ops.specs.declared.number.ThreadNo.{ThreadNo}
 use Rattle.cc_core.specs.Names.{Name}
 use Rattle.cc_core.specs.Steps as core
 use Rattle.numbered_runs.proofs.Follow.{steps_follow}
 use Rattle.numbered_runs.proofs.Posts.{posts_alike}
 use Rattle.numbered_runs.specs.Alike.{DoesAlike}
 use Rattle.numbered_runs.specs.Stands.{Stands, IsThread}
-use Rattle.cc_ops.specs.declared.number.ThreadNo.{ThreadNo}
 use Rattle.law_mesh.specs.Moves.{Moves, FaultsAt, Step}
 use Rattle.law_mesh.specs.Shows.{IsShown, IsPosted}
 use Rattle.law_mesh.specs.Source.{IsOfRun, GoesOnInRun}

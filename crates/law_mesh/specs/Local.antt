@@ -3,20 +3,18 @@ use Rattle.std.specs.Prelude.{◌≡◌, ℕ, ◌+◌, Bool, true, false, List, 
 use Rattle.std.specs.Option.{option_and_then}
 use Rattle.cc_ops.specs.Values.{Value, Cell, Void, Int, Null, Ptr, Result, Gives, Fails}
 use Rattle.cc_ops.specs.Cells.{written}
-use Rattle.cc_ops.specs.Machine.{Address}
+use Rattle.cc_ops.specs.Machine.{Address, Values}
+use Rattle.cc_ops.specs.declared.number.ThreadNo.{ThreadNo}
+use Rattle.cc_ops.specs.Shelves.{Thing, Shelf, changed, home_in}
 use Rattle.cc_core.specs.Core.{Shapes, function_shape}
-use Rattle.cc_core.specs.Effects.{numbers}
+use Rattle.cc_core.specs.Effects.{numbers, branch_count}
 use Rattle.cc_core.specs.Asks.{Ask, Answer}
 use Rattle.cc_core.specs.Asks.{Reads, Writes, Copies, Makes, MakesWith, Builds, Enters, Leaves}
 use Rattle.cc_core.specs.Asks.{ForksAll, ForksOne, Joins, Spawns, Calls, Casts, NewProcessor}
-use Rattle.cc_code.specs.Code.{Code, Thread, Then}
-use Rattle.cc_ops.specs.declared.number.ThreadNo.{ThreadNo}
-use Rattle.cc_ops.specs.Shelves.{Thing, Shelf, changed, home_in}
-use Rattle.numbered_runs.specs.Machine.{Progress, Goes, Over}
-use Rattle.cc_ops.specs.Machine.{Values}
 use Rattle.cc_core.specs.Needs.{at_object}
+use Rattle.cc_code.specs.Code.{Code, Thread, Then}
+use Rattle.numbered_runs.specs.Machine.{Progress, Goes, Over}
 use Rattle.numbered_runs.specs.Effects.{Effect}
-use Rattle.cc_core.specs.Effects.{branch_count}
 use Rattle.numbered_runs.specs.Steps.{settle, numbers_on}
 use Rattle.law_mesh.specs.Moves.{new_spots, known}
 use Rattle.law_mesh.specs.Spots.{Fiber, Spot, Active, runs}

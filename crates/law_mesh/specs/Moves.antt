@@ -1,25 +1,21 @@
 -- The moves of a mesh: each takes one thread from its spot to another, or wakes all that wait for a cell.
-use Rattle.std.specs.Prelude.{◌≡◌, ℕ, zero, suc, List, [], ◌∷◌, ◌++◌, length, map, slice_get, Bool, true, false, Option, Some, None}
-use Rattle.std.specs.Option.{option_map_or}
+use Rattle.std.specs.Prelude.{◌≡◌, ℕ, zero, suc, List, [], ◌∷◌, ◌++◌, length, map, Bool, true, false, Option, Some, None, is_some}
 use Rattle.global_ptr.specs.declared.ends.FaultKind.{FaultKind}
 use Rattle.cc_ops.specs.Values.{Value, Ptr}
-use Rattle.cc_ops.specs.Machine.{Address}
-use Rattle.cc_core.specs.Core.{function_shape}
-use Rattle.cc_core.specs.Asks.{Ask, Answer, Reads, Enters, Joins}
-use Rattle.cc_core.specs.Effects.{numbers}
-use Rattle.cc_core.specs.Numbers.{Post}
-use Rattle.cc_code.specs.Code.{Code, Thread, Then, Silent, Does, Ends, move}
+use Rattle.cc_ops.specs.Machine.{Address, Values}
 use Rattle.cc_ops.specs.declared.number.ThreadNo.{ThreadNo}
 use Rattle.cc_ops.specs.Shelves.{Shelf, changed}
-use Rattle.cc_ops.specs.Machine.{Values}
+use Rattle.cc_core.specs.Core.{function_shape}
+use Rattle.cc_core.specs.Asks.{Ask, Answer, Reads, Enters, Joins}
+use Rattle.cc_core.specs.Effects.{numbers, branch_count, is_call}
+use Rattle.cc_core.specs.Numbers.{Post}
 use Rattle.cc_core.specs.Needs.{Go, Bad}
-use Rattle.std.specs.Prelude.{is_some}
+use Rattle.cc_code.specs.Code.{Code, Thread, Then, Silent, Does, Ends, move}
 use Rattle.numbered_runs.specs.Effects.{Effect, effect, start_home, write_all, more_shelves, put_things, addresses, held_after}
-use Rattle.cc_core.specs.Effects.{branch_count, is_call}
 use Rattle.numbered_runs.specs.Posts.{posted}
 use Rattle.numbered_runs.specs.Steps.{settle, freed, numbers_on}
 use Rattle.law_mesh.specs.Spots.{Fiber, Reason, Cell as ACell, Lock, Branches, Spot, Active, Parked, Posted, Delayed, Answered, Calling, Called, Gone}
-use Rattle.law_mesh.specs.Spots.{Mesh, item_in, put_item, shown, runs, verdict, answered}
+use Rattle.law_mesh.specs.Spots.{Mesh, made_of, item_in, put_item, shown, runs, verdict, answered}
 use Rattle.law_mesh.specs.Queues.{woken}
 
 module _ {X : Type 0} where
@@ -33,9 +29,6 @@ module _ {X : Type 0} where
   abbrev pub more_lists : ℕ → List (List X) → List (List X)
   more_lists zero table = table
   more_lists (suc n) table = more_lists n (table ++ [] ∷ [])
-
-  abbrev pub made_of : List (List X) → ℕ → ℕ
-  made_of table q = option_map_or (λ xs. length xs) (slice_get table q) 0
 
 abbrev pub new_fiber : Thread Address → Fiber
 new_fiber c = record { thread = c; kids = []; inside = [] }

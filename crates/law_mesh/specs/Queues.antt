@@ -1,15 +1,14 @@
 -- Where the threads of a mesh stand in lists: each in one list at most, once.
 use Rattle.std.specs.Prelude.{◌≡◌, ◌⊎◌, ℕ, List, [], ◌∷◌, ◌++◌, Bool, true, false, ◌&&◌, nat_eq, if◌then◌else◌, Option, Some, None}
 use Rattle.cc_ops.specs.Values.{Value, Void, Int, Null, Ptr}
-use Rattle.cc_ops.specs.Machine.{Address}
+use Rattle.cc_ops.specs.Machine.{Address, Values}
+use Rattle.cc_ops.specs.declared.number.ThreadNo.{ThreadNo}
+use Rattle.cc_ops.specs.Shelves.{home_in}
 use Rattle.cc_core.specs.Asks.{Ask, Answer, Writes, Casts, Enters}
 use Rattle.cc_core.specs.Core.{Shapes, function_shape}
 use Rattle.cc_core.specs.Numbers.{Post, Get, Put, Call, Cast, Make}
-use Rattle.cc_code.specs.Code.{Code, Then, Does, move}
-use Rattle.cc_ops.specs.declared.number.ThreadNo.{ThreadNo}
-use Rattle.cc_ops.specs.Shelves.{home_in}
-use Rattle.cc_ops.specs.Machine.{Values}
 use Rattle.cc_core.specs.Effects.{is_call}
+use Rattle.cc_code.specs.Code.{Code, Then, Does, move}
 use Rattle.numbered_runs.specs.Posts.{move_posts}
 use Rattle.law_mesh.specs.Spots.{Fiber, Cell, Lock, Branches, Spot, Active, Parked, Posted, Delayed, Answered, Calling, Called, Gone, item_in}
 

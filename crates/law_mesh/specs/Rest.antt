@@ -2,10 +2,10 @@
 use Rattle.std.specs.Prelude.{◌≡◌, ◌⊎◌, ℕ, ◌+◌, suc, List, [], ◌∷◌, slice_get, true, Option, Some}
 use Rattle.cc_ops.specs.Values.{Empty, Ptr}
 use Rattle.cc_ops.specs.Machine.{Address}
-use Rattle.cc_core.specs.Asks.{Answer, Joins}
-use Rattle.cc_code.specs.Code.{Then, Does, move}
 use Rattle.cc_ops.specs.declared.number.ThreadNo.{ThreadNo}
 use Rattle.cc_ops.specs.Shelves.{cell_in, is_held}
+use Rattle.cc_core.specs.Asks.{Answer, Joins}
+use Rattle.cc_code.specs.Code.{Then, Does, move}
 use Rattle.law_mesh.specs.Moves.{AsksFor}
 use Rattle.law_mesh.specs.Spots.{Fiber, Cell, Lock, Branches, Spot, Active, Parked, Posted, Delayed, Answered, Calling, Called, Gone, Mesh, item_in}
 

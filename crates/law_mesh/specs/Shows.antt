@@ -1,8 +1,8 @@
 -- A mesh shows a machine of numbers: it has the same objects, and where its threads stand says what the machine's threads have left to do.
 use Rattle.std.specs.Prelude.{◌≡◌, ◌⊎◌, List, Option, Some, None}
+use Rattle.cc_ops.specs.declared.number.ThreadNo.{ThreadNo}
 use Rattle.cc_code.specs.Code.{Code, move}
 use Rattle.code_names.specs.Same.{Pairwise}
-use Rattle.cc_ops.specs.declared.number.ThreadNo.{ThreadNo}
 use Rattle.numbered_runs.specs.Machine.{Machine, Progress, Goes, Over, thread_in, ended_with}
 use Rattle.numbered_runs.specs.Posts.{posts}
 use Rattle.numbered_runs.specs.Stands.{IsAsk}

@@ -1,16 +1,16 @@
 -- The threads of all processors, each at the one spot where it stands.
-use Rattle.std.specs.Prelude.{ℕ, List, [], ◌∷◌, ◌++◌, map, slice_get, Bool, true, false, ◌&&◌, if◌then◌else◌, Option, Some, None}
-use Rattle.std.specs.Option.{option_and_then}
-use Rattle.cc_ops.specs.Values.{Value, Void}
-use Rattle.cc_ops.specs.Machine.{Address}
-use Rattle.cc_core.specs.Asks.{Ask, Joins, Casts}
-use Rattle.cc_code.specs.Code.{Code, Thread, Move, Silent, Does, Ends, Stuck, move}
+use Rattle.std.specs.Prelude.{ℕ, List, [], ◌∷◌, ◌++◌, length, slice_get, Bool, true, false, Option, Some, None}
+use Rattle.std.specs.Option.{option_and_then, option_map_or}
+use Rattle.cc_ops.specs.Values.{Value}
+use Rattle.cc_ops.specs.Machine.{Address, Values}
 use Rattle.cc_ops.specs.declared.number.ThreadNo.{ThreadNo}
-use Rattle.numbered_runs.specs.Machine.{Machine, Runner, Progress, Over}
-use Rattle.cc_ops.specs.Shelves.{Shelf, changed}
-use Rattle.cc_ops.specs.Machine.{Values}
-use Rattle.cc_core.specs.Needs.{Verdict, Go, Hold}
-use Rattle.numbered_runs.specs.Looks.{needs, check_all}
+use Rattle.cc_ops.specs.Shelves.{Shelf, changed, home_in}
+use Rattle.cc_core.specs.Asks.{Ask, Casts}
+use Rattle.cc_core.specs.Needs.{Verdict, Looks, verdict_on_all}
+use Rattle.cc_code.specs.Code.{Code, Thread, Move, Silent, Does, Ends, Stuck, move}
+use Rattle.numbered_runs.specs.Machine.{Machine, Runner, Progress}
+use Rattle.numbered_runs.specs.Looks as numbered
+use Rattle.numbered_runs.specs.Looks.{needs}
 
 -- A thread as its processor knows it: what it has left to do; the threads that it made, in order, of which one that was made by a request has no
 -- number here; and the functions that it is inside.
@@ -55,6 +55,9 @@ module _ {X : Type 0} where
   abbrev pub put_item : List (List X) → ThreadNo → X → List (List X)
   put_item table t x = changed table t.processor (λ xs. changed xs t.thread (λ y. x))
 
+  abbrev pub made_of : List (List X) → ℕ → ℕ
+  made_of table q = option_map_or (λ xs. length xs) (slice_get table q) 0
+
 -- ---- the machine of numbers that a mesh shows, but for its threads, and a thread there
 
 -- with these threads
@@ -65,13 +68,6 @@ abbrev pub runs : Fiber → Option ThreadNo → List ThreadNo → Runner
 runs f asked kids = record { thread = f.thread; asked = asked; kids = kids; inside = f.inside }
 
 -- ---- what an ask finds
-
--- a machine of numbers with as many threads as were made, whatever they do
-abbrev pub some_progress : Spot → Progress
-some_progress p = Over Void
-
-abbrev pub counted : List (List Spot) → List (List Progress)
-counted spots = map (map some_progress) spots
 
 abbrev pub is_gone : Option Spot → Bool
 is_gone None = false
@@ -85,14 +81,17 @@ spot_of spots (Some t) = item_in spots t
 abbrev pub kid_gone : List (List Spot) → List (Option ThreadNo) → ℕ → Bool
 kid_gone spots kids k = is_gone (option_and_then (spot_of spots) (slice_get kids k))
 
-abbrev pub all_gone : List (List Spot) → List (Option ThreadNo) → List ℕ → Bool
-all_gone spots kids [] = true
-all_gone spots kids (k ∷ ks) = kid_gone spots kids k && all_gone spots kids ks
+-- of a thread on processor q: what it looks up in the machine that is shown, but for threads
+abbrev pub looks : Mesh → (q : ℕ) → Fiber → Looks Address
+looks m q f = record (numbered.looks (shown m []) q (runs f None [])) {
+  ended = kid_gone m.spots f.kids;
+  threads = made_of m.spots q;
+  threads_at = λ o. made_of m.spots (home_in o);
+}
 
 -- what a thread on processor q finds for its ask: it may go on, it waits, or it has a fault
-abbrev pub verdict : Mesh → (q : ℕ) → Fiber → Ask Address → Verdict
-verdict m q f (Joins made) = if all_gone m.spots f.kids made then Go [] else Hold
-verdict m q f ask = check_all (shown m (counted m.spots)) q (runs f None []) (needs m.code.shapes ask)
+abbrev pub verdict : Mesh → (q : ℕ) → Fiber → Ask Address → Verdict Address
+verdict m q f ask = verdict_on_all m.code.shapes (looks m q f) (needs m.code.shapes ask)
 
 -- ---- after a Reply
 

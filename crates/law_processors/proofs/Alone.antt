@@ -2,15 +2,15 @@
 use Rattle.std.proofs.Common.{◌≡◌, ℕ, zero, suc, List, [], ◌∷◌, length, map, false, Some, refl, ap, ◌∙◌}
 use Rattle.std.specs.Prelude.{slice_get}
 use Rattle.std.specs.Option.{option_and_then, option_map_or}
+use Rattle.std.proofs.lemmas.List.{length-map}
 use Rattle.cc_ops.specs.Values.{Ptr}
 use Rattle.cc_ops.specs.Machine.{Address}
 use Rattle.cc_ops.specs.declared.number.ThreadNo.{ThreadNo}
 use Rattle.cc_ops.specs.Shelves.{Thing, Shelf, no_shelf, cell_in, cells_in, is_held, slots_in}
-use Rattle.numbered_runs.specs.Machine.{made_in}
 use Rattle.law_mesh.specs.Local.{cell_on}
 use Rattle.law_processors.specs.Orderly.{held_on}
 use Rattle.law_processors.specs.Processors.{Entry, Lives, Ended}
-use Rattle.law_mesh.specs.Spots.{Spot, counted, some_progress, is_gone, item_in}
+use Rattle.law_mesh.specs.Spots.{Spot, made_of, is_gone, item_in}
 use Rattle.law_processors.specs.Alone.{alone_at, seen_entry, cells_on, has_ended_on}
 use Rattle.law_processors.proofs.Seen.{alone_there}
 
@@ -30,13 +30,8 @@ module _ (q : ℕ) (s : Shelf) (a : Address) (here : a.processor ≡ q) where
 pub slots_seen : (q : ℕ) (s : Shelf) → slots_in (alone_at q no_shelf s) q ≡ s.slots
 slots_seen q s = ap (λ o. option_map_or (λ (z : Shelf). z.slots) o 0) (alone_there q no_shelf s)
 
-pub made_seen : (q : ℕ) (es : List Entry) → made_in (counted (alone_at q [] (map seen_entry es))) q ≡ length es
-made_seen zero es = by es
-  where
-    by : (xs : List Entry) → length (map some_progress (map seen_entry xs)) ≡ length xs
-    by [] = refl
-    by (x ∷ xs) = ap suc (by xs)
-made_seen (suc q) es = made_seen q es
+pub made_seen : (q : ℕ) (es : List Entry) → made_of (alone_at q [] (map seen_entry es)) q ≡ length es
+made_seen q es = ap (λ o. option_map_or (λ (ps : List Spot). length ps) o 0) (alone_there q [] (map seen_entry es)) ∙ length-map es seen_entry
 
 pub ended_seen : (q : ℕ) (es : List Entry) (t : ThreadNo) → t.processor ≡ q → is_gone (item_in (alone_at q [] (map seen_entry es)) t) ≡ has_ended_on (slice_get es t.thread)
 ended_seen q es t here =

@@ -8,6 +8,8 @@ use Rattle.std.proofs.lemmas.Bool.{false≢true}
 use Rattle.cc_ops.specs.Values.{Value, Int, Ptr, Empty}
 use Rattle.cc_ops.specs.Values as values
 use Rattle.cc_ops.specs.Machine.{Address}
+use Rattle.cc_ops.specs.declared.number.ThreadNo.{ThreadNo}
+use Rattle.cc_ops.specs.Shelves.{Thing, Shelf, cell_in, is_held}
 use Rattle.cc_core.specs.Asks.{Joins as JoinsAsk}
 use Rattle.cc_core.specs.Config.{Config, Thread, State, Live, Ended as EndedState}
 use Rattle.cc_core.specs.Core.{Program}
@@ -17,8 +19,6 @@ use Rattle.cc_core.specs.Steps as core
 use Rattle.cc_code.specs.Code.{Code, Does, move}
 use Rattle.code_names.specs.Same.{Pairwise}
 use Rattle.numbered_runs.specs.Alike.{DoesAlike, main_thread}
-use Rattle.cc_ops.specs.declared.number.ThreadNo.{ThreadNo}
-use Rattle.cc_ops.specs.Shelves.{Thing, Shelf, cell_in, is_held}
 use Rattle.numbered_runs.specs.Machine.{Progress, Goes as GoesAhead, Over, Machine, thread_in, ended_with, all_going}
 use Rattle.numbered_runs.specs.Stands.{IsThread, SameState}
 use Rattle.numbered_runs.proofs.Follow.{steps_follow}

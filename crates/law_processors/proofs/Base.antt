@@ -1,13 +1,13 @@
 -- The tables and the objects of the machine, and those of the mesh that it shows.
 use Rattle.law_mesh.specs.Moves.{Step}
 use Rattle.std.proofs.Common.{◌≡◌, ℕ, zero, suc, ◌+◌, List, [], ◌∷◌, ◌++◌, length, map, Bool, true, false, Option, Some, None, refl, sym, ap, ◌∙◌, subst, arith}
-use Rattle.std.specs.Prelude.{slice_get}
 use Rattle.std.proofs.lemmas.Option.{none-some, same_Some}
 use Rattle.std.proofs.lemmas.Bool.{false≢true}
 use Rattle.std.specs.Option.{option_and_then}
-use Rattle.code_names.specs.Same.{Pairwise}
+use Rattle.std.specs.Prelude.{slice_get}
 use Rattle.cc_ops.specs.declared.number.ThreadNo.{ThreadNo}
 use Rattle.cc_ops.specs.Shelves.{Shelf, changed}
+use Rattle.code_names.specs.Same.{Pairwise}
 use Rattle.numbered_runs.proofs.Lists.{then_found, get_changed, pairwise_push, pairwise_changed, pairwise_length, pairwise_right}
 use Rattle.law_mesh.specs.Spots.{Fiber, Spot, Active, Posted, Calling, Mesh, item_in, put_item}
 use Rattle.law_mesh.specs.Moves.{Moves, with_spot, push_item}

@@ -1,24 +1,23 @@
 -- Who waits for a cell waits for one without a value: no move leaves it otherwise.
 use Rattle.law_processors.specs.Alone.{OwnStep}
 use Rattle.std.proofs.Common.{◌≡◌, ◌⊎◌, inl, inr, ⊎_elim, ℕ, zero, suc, List, [], ◌∷◌, ◌++◌, length, map, Bool, true, false, ◌&&◌, Option, Some, None, refl, sym, ap, ◌∙◌, subst}
-use Rattle.std.specs.Prelude.{slice_get, if◌then◌else◌, nat_eq}
 use Rattle.std.specs.Option.{option_and_then}
+use Rattle.std.specs.Prelude.{slice_get, if◌then◌else◌, nat_eq}
 use Rattle.std.proofs.lemmas.Option.{none-some}
 use Rattle.std.proofs.lemmas.Bool.{false≢true}
 use Rattle.global_ptr.specs.declared.ends.FaultKind.TheVariants.{NullPointer}
 use Rattle.cc_ops.specs.Values.{Value, Cell, Void, Int, Null, Ptr, Empty, Plain, Full, Result, Gives, Fails}
 use Rattle.cc_ops.specs.Cells.{written}
-use Rattle.cc_ops.specs.Machine.{Address}
+use Rattle.cc_ops.specs.Machine.{Address, Values}
+use Rattle.cc_ops.specs.declared.number.ThreadNo.{ThreadNo}
+use Rattle.cc_ops.specs.Shelves.{Thing, Shelf, no_shelf, changed, cell_in}
 use Rattle.cc_core.specs.Core.{Shapes, function_shape}
 use Rattle.cc_core.specs.Asks.{Ask, Answer, Reads, Enters, Leaves}
 use Rattle.cc_core.specs.Asks as asks
 use Rattle.cc_core.specs.Numbers.{Post, Get, Put, Call, Cast, Make}
-use Rattle.cc_code.specs.Code.{Code, Thread, Then, Move, Silent, Does, Ends, Stuck, move}
-use Rattle.cc_ops.specs.declared.number.ThreadNo.{ThreadNo}
-use Rattle.cc_ops.specs.Shelves.{Thing, Shelf, no_shelf, changed, cell_in}
-use Rattle.numbered_runs.specs.Machine.{Progress, Goes as GoesAhead, Over}
-use Rattle.cc_ops.specs.Machine.{Values}
 use Rattle.cc_core.specs.Needs.{Verdict, Go, Hold, Bad, and_also, read}
+use Rattle.cc_code.specs.Code.{Code, Thread, Then, Move, Silent, Does, Ends, Stuck, move}
+use Rattle.numbered_runs.specs.Machine.{Progress, Goes as GoesAhead, Over}
 use Rattle.numbered_runs.specs.Posts.{posted}
 use Rattle.numbered_runs.proofs.Lists.{get_unchanged}
 use Rattle.law_mesh.specs.Local.{cell_on, with_cell, with_held, with_thing, with_new, with_result, with_written, write_on, write_all_on, put_all_on, when, note_on, leave_on, leave_all_on, held_after_on, freed_on, place_after, new_here}
@@ -318,7 +317,7 @@ module _ (code : Code) (q n : ℕ) (f : Fiber) (caller : Option ThreadNo) (ask :
       (write_all_or o x e.writes p.shelf g))
       (h o x))))
 
-  decided_cells : asks_here q f ask ≡ true → (v : Verdict) → verdict (seen code q p) q f ask ≡ v → CellsAfter (decided code q n f caller ask k p v)
+  decided_cells : asks_here q f ask ≡ true → (v : Verdict Address) → verdict (seen code q p) q f ask ≡ v → CellsAfter (decided code q n f caller ask k p v)
   decided_cells on (Go found) e = by (may_step code q n f caller ask k p found)
     where
       by : (b : Bool) → CellsAfter (if b then Went (Some (OwnStep (record { processor = q; thread = n }))) (effect_here code q n f caller ask k p found).prints (stepped_here code q n f caller ask k p found) else Went None [] p)
@@ -399,7 +398,7 @@ pub serves_cells : (code : Code) (q : ℕ) (t : ThreadNo) (post : Post) (after b
     → ((a : Address) (x : ℕ) → post ≡ Get (Ptr a x) → a.processor ≡ q) → CellsAfter (serves code q t post after before)
 serves_cells code q t post after before h g on = by (verdict (seen code q after) q nobody (ask_of post)) refl
   where
-    by : (v : Verdict) → verdict (seen code q after) q nobody (ask_of post) ≡ v → CellsAfter (served_so q t post v after before)
+    by : (v : Verdict Address) → verdict (seen code q after) q nobody (ask_of post) ≡ v → CellsAfter (served_so q t post v after before)
     by (Go found) e = answer_cells t post found after h
     by Hold e = park_get_cells code q t post after before h g e on
     by (Bad kind) e = tt

@@ -5,8 +5,8 @@ use Rattle.std.specs.Option.{option_map_or}
 use Rattle.std.proofs.lemmas.Option.{none-some, same_Some}
 use Rattle.std.proofs.lemmas.Bool.{false≢true}
 use Rattle.cc_ops.specs.Machine.{Address}
-use Rattle.cc_code.specs.Code.{Code}
 use Rattle.cc_ops.specs.Shelves.{Shelf, changed}
+use Rattle.cc_code.specs.Code.{Code}
 use Rattle.numbered_runs.proofs.Lists.{get_changed, get_unchanged}
 use Rattle.law_mesh.specs.Spots.{Spot, item_in, put_item}
 use Rattle.law_mesh.specs.Queues.{Queue, Hand, Ready, OfCell, OfLock, Inbox, Outbox, Makes, Message, Item, Itself, Mail, owner, Queues, Hold, MayLie, of_thread, lies_in, same_queue, put_queue, pulled, pushed, carried, poured}

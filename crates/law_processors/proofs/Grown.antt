@@ -1,18 +1,17 @@
 -- What a move leaves as it was of objects that are held, and of threads that are up.
 use Rattle.std.proofs.Common.{◌≡◌, ◌⊎◌, inl, inr, ⊎_elim, ℕ, zero, suc, List, [], ◌∷◌, ◌++◌, length, map, Bool, true, false, Option, Some, None, refl, sym, ap, ◌∙◌, subst}
-use Rattle.std.specs.Prelude.{slice_get, if◌then◌else◌, nat_eq}
+use Rattle.std.specs.Prelude.{slice_get, if◌then◌else◌, nat_eq, is_some}
 use Rattle.std.specs.Option.{option_map_or}
 use Rattle.std.proofs.lemmas.Option.{same_Some}
 use Rattle.std.proofs.lemmas.Bool.{false≢true}
 use Rattle.cc_ops.specs.Values.{Value, Cell, Void, Int, Null, Ptr, Result, Gives, Fails}
 use Rattle.cc_ops.specs.Cells.{written}
 use Rattle.cc_ops.specs.Machine.{Address}
-use Rattle.cc_core.specs.Core.{Shapes}
-use Rattle.cc_code.specs.Code.{Code, Thread, move}
 use Rattle.cc_ops.specs.declared.number.ThreadNo.{ThreadNo}
 use Rattle.cc_ops.specs.Shelves.{Thing, Shelf, changed}
+use Rattle.cc_core.specs.Core.{Shapes}
+use Rattle.cc_code.specs.Code.{Code, Thread, move}
 use Rattle.numbered_runs.specs.Machine.{Progress, Goes as GoesAhead, Over}
-use Rattle.std.specs.Prelude.{is_some}
 use Rattle.numbered_runs.proofs.Lists.{get_unchanged, get_in_front}
 use Rattle.law_mesh.specs.Local.{with_cell, with_held, with_thing, with_new, cell_on, with_result, with_written, write_on, write_all_on, put_all_on, when, note_on, leave_all_on, freed_on}
 use Rattle.law_mesh.specs.Moves.{new_fiber}

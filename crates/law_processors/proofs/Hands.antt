@@ -1,19 +1,18 @@
 -- What the thread in the hand does that is no step, and that it takes the value of its call.
 use Rattle.std.proofs.Common.{◌≡◌, inl, ℕ, List, [], ◌∷◌, ◌++◌, map, Bool, true, false, Option, Some, None, refl, sym, ap, ◌∙◌, subst}
-use Rattle.std.specs.Prelude.{slice_get, if◌then◌else◌}
+use Rattle.std.specs.Prelude.{slice_get, if◌then◌else◌, is_some}
 use Rattle.std.proofs.lemmas.Bool.{false≢true}
 use Rattle.cc_ops.specs.Values.{Value, Void, Int, Null, Ptr}
 use Rattle.cc_ops.specs.Machine.{Address}
+use Rattle.cc_ops.specs.declared.number.ThreadNo.{ThreadNo}
+use Rattle.cc_ops.specs.Shelves.{Shelf, put_held}
 use Rattle.cc_core.specs.Core.{Shapes, function_shape}
 use Rattle.cc_core.specs.Asks.{Ask, Answer, Reads, Enters}
 use Rattle.cc_core.specs.Asks as asks
 use Rattle.cc_core.specs.Numbers.{Post}
 use Rattle.cc_code.specs.Code.{Code, Thread, Then, Move, Silent, Does, move}
-use Rattle.cc_ops.specs.declared.number.ThreadNo.{ThreadNo}
-use Rattle.cc_ops.specs.Shelves.{Shelf, put_held}
 use Rattle.numbered_runs.specs.Machine.{Progress, Over}
 use Rattle.numbered_runs.specs.Machine as numbered
-use Rattle.std.specs.Prelude.{is_some}
 use Rattle.numbered_runs.specs.Effects.{leave_all, note_held}
 use Rattle.numbered_runs.specs.Posts.{posted, move_posts}
 use Rattle.numbered_runs.specs.Steps.{freed, settle}

@@ -1,24 +1,22 @@
 -- Who holds an object is inside, or about to go in: no move leaves it otherwise.
 use Rattle.law_processors.specs.Alone.{OwnStep}
 use Rattle.std.proofs.Common.{◌≡◌, ◌⊎◌, inl, inr, ⊎_elim, ℕ, List, [], ◌∷◌, ◌++◌, length, map, Bool, true, false, ◌&&◌, not, Option, Some, None, refl, sym, ap, ◌∙◌, subst}
-use Rattle.std.specs.Prelude.{slice_get, if◌then◌else◌, nat_eq}
 use Rattle.std.specs.Option.{option_and_then, option_map_or}
+use Rattle.std.specs.Prelude.{slice_get, if◌then◌else◌, nat_eq, is_some}
 use Rattle.std.proofs.lemmas.Option.{none-some, same_Some}
 use Rattle.std.proofs.lemmas.Bool.{false≢true}
 use Rattle.global_ptr.specs.declared.ends.FaultKind.{FaultKind}
 use Rattle.global_ptr.specs.declared.ends.FaultKind.TheVariants.{NullPointer}
 use Rattle.cc_ops.specs.Values.{Value, Void, Int, Null, Ptr}
-use Rattle.cc_ops.specs.Machine.{Address}
+use Rattle.cc_ops.specs.Machine.{Address, Values}
+use Rattle.cc_ops.specs.declared.number.ThreadNo.{ThreadNo}
+use Rattle.cc_ops.specs.Shelves.{Thing, Shelf, no_shelf, is_held}
 use Rattle.cc_core.specs.Core.{function_shape}
 use Rattle.cc_core.specs.Asks.{Ask, Answer, Reads, Enters, Leaves}
 use Rattle.cc_core.specs.Asks as asks
 use Rattle.cc_core.specs.Numbers.{Post, Get, Put, Call, Cast, Make}
-use Rattle.cc_code.specs.Code.{Code, Then, Move, Silent, Does, Ends, Stuck, Starting, move}
-use Rattle.cc_ops.specs.declared.number.ThreadNo.{ThreadNo}
-use Rattle.cc_ops.specs.Shelves.{Thing, Shelf, no_shelf, is_held}
-use Rattle.cc_ops.specs.Machine.{Values}
 use Rattle.cc_core.specs.Needs.{Verdict, Go, Hold, Bad, and_also}
-use Rattle.std.specs.Prelude.{is_some}
+use Rattle.cc_code.specs.Code.{Code, Then, Move, Silent, Does, Ends, Stuck, Starting, move}
 use Rattle.numbered_runs.specs.Effects.{Effect}
 use Rattle.numbered_runs.specs.Posts.{posted}
 use Rattle.numbered_runs.specs.Steps.{settle}
@@ -427,7 +425,7 @@ module _ (code : Code) (q n : ℕ) (f : Fiber) (caller : Option ThreadNo) (p : P
                       at false atomic = subst (λ b. LocksWait code (leave_object b (Ptr a w) p4)) (sym atomic) (same_ground (ap (holds code.shapes x.0) y ∙ atomic))
           by x is = plainly (ap (λ y. held_after_on code.shapes f.inside y written_shelves) is) (ap (goes_into code.shapes) is)
 
-    decided_locks : asks_here q f ask ≡ true → (v : Verdict) → verdict (seen code q p) q f ask ≡ v → LocksAfter code (decided code q n f caller ask k p v)
+    decided_locks : asks_here q f ask ≡ true → (v : Verdict Address) → verdict (seen code q p) q f ask ≡ v → LocksAfter code (decided code q n f caller ask k p v)
     decided_locks on (Go found) go = by (may_step code q n f caller ask k p found) refl
       where
         by : (b : Bool) → may_step code q n f caller ask k p found ≡ b
@@ -557,7 +555,7 @@ park_locks code t (Make c vs) after before h g = g
 pub serves_locks : (code : Code) (q : ℕ) (t : ThreadNo) (post : Post) (after before : Processor) → LocksWait code after → LocksWait code before → LocksAfter code (serves code q t post after before)
 serves_locks code q t post after before h g = by (verdict (seen code q after) q nobody (ask_of post))
   where
-    by : (v : Verdict) → LocksAfter code (served_so q t post v after before)
+    by : (v : Verdict Address) → LocksAfter code (served_so q t post v after before)
     by (Go found) = steady code after (answer t post found after) (length after.table) (answer_grows (length after.table) t post found after) (answer_hand t post found after) (no_entry code after) h
     by Hold = park_locks code t post after before h g
     by (Bad kind) = tt

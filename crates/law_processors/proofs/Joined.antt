@@ -1,24 +1,23 @@
 -- Who waits for branches waits for one that lives: no move leaves it otherwise.
 use Rattle.law_processors.specs.Alone.{OwnStep}
 use Rattle.std.proofs.Common.{◌≡◌, ◌⊎◌, inl, inr, ⊎_elim, ℕ, zero, suc, ◌<◌, List, [], ◌∷◌, ◌++◌, length, map, Bool, true, false, ◌||◌, Option, Some, None, refl, sym, ap, ◌∙◌, subst, arith}
-use Rattle.std.specs.Prelude.{slice_get, if◌then◌else◌, nat_eq}
 use Rattle.std.specs.Option.{option_and_then}
+use Rattle.std.specs.Prelude.{slice_get, if◌then◌else◌, nat_eq}
 use Rattle.std.proofs.lemmas.Option.{none-some, same_Some}
 use Rattle.std.proofs.lemmas.Bool.{false≢true}
 use Rattle.std.proofs.lemmas.Bool.Decides.{nat_tests}
 use Rattle.global_ptr.specs.declared.ends.FaultKind.TheVariants.{NullPointer}
 use Rattle.cc_ops.specs.Values.{Value, Void, Int, Null, Ptr}
-use Rattle.cc_ops.specs.Machine.{Address}
+use Rattle.cc_ops.specs.Machine.{Address, Values}
+use Rattle.cc_ops.specs.declared.number.ThreadNo.{ThreadNo}
+use Rattle.cc_ops.specs.Shelves.{changed}
 use Rattle.cc_core.specs.Core.{Shapes}
 use Rattle.cc_core.specs.Asks.{Ask, Answer, Reads, Enters, Leaves}
 use Rattle.cc_core.specs.Asks as asks
 use Rattle.cc_core.specs.Numbers.{Post, Get, Put, Call, Cast, Make}
-use Rattle.cc_code.specs.Code.{Code, Thread, Then, Move, Silent, Does, Ends, Stuck, move}
-use Rattle.cc_ops.specs.declared.number.ThreadNo.{ThreadNo}
-use Rattle.cc_ops.specs.Shelves.{changed}
-use Rattle.cc_ops.specs.Machine.{Values}
 use Rattle.cc_core.specs.Needs.{Verdict, Go, Hold, Bad}
 use Rattle.cc_core.specs.Effects.{is_call}
+use Rattle.cc_code.specs.Code.{Code, Thread, Then, Move, Silent, Does, Ends, Stuck, move}
 use Rattle.numbered_runs.specs.Posts.{posted}
 use Rattle.numbered_runs.proofs.Lists.{get_changed, get_unchanged, length_changed}
 use Rattle.law_mesh.specs.Local.{write_on, place_after, new_here}
@@ -341,7 +340,7 @@ module _ (code : Code) (q n : ℕ) (f : Fiber) (caller : Option ThreadNo) (p : P
         (then_kept p2.table p3.table (stepped_here code q n f caller ask k p found).table (put_kept p2.table n g Goes caller tt)
         (alike p3.table _ (left_table code.shapes f ask p5 ∙ (taken_table n (goes_into code.shapes ask) p4 ∙ woken_table e.writes p3)))))
 
-    decided_wait : (v : Verdict) → BranchesAfter code q (decided code q n f caller ask k p v)
+    decided_wait : (v : Verdict Address) → BranchesAfter code q (decided code q n f caller ask k p v)
     decided_wait (Go found) = by (may_step code q n f caller ask k p found)
       where
         by : (b : Bool) → BranchesAfter code q (if b then Went (Some (OwnStep (record { processor = q; thread = n }))) (effect_here code q n f caller ask k p found).prints (stepped_here code q n f caller ask k p found) else Went None [] p)
@@ -412,7 +411,7 @@ pub serves_wait : (code : Code) (q : ℕ) (t : ThreadNo) (post : Post) (after be
     → BranchesAfter code q (serves code q t post after before)
 serves_wait code q t post after before e h = by (verdict (seen code q after) q nobody (ask_of post))
   where
-    by : (v : Verdict) → BranchesAfter code q (served_so q t post v after before)
+    by : (v : Verdict Address) → BranchesAfter code q (served_so q t post v after before)
     by (Go found) = branches_kept code q before (answer t post found after) (then_kept before.table after.table _ (alike before.table after.table e) (answer_kept t post found after)) h
     by Hold = branches_kept code q before (park_get t post after before) (alike before.table _ (park_table t post after before e)) h
     by (Bad kind) = tt

@@ -1,23 +1,21 @@
 -- A step of the thread in the hand: what it writes, makes, wakes, and the objects that it goes into or leaves.
 use Rattle.numbered_runs.specs.Posts.{posted}
 use Rattle.std.proofs.Common.{◌≡◌, ℕ, suc, List, [], ◌∷◌, ◌++◌, length, map, Bool, true, false, Option, Some, None, refl, sym, ap, ◌∙◌, subst}
-use Rattle.std.specs.Prelude.{slice_get, if◌then◌else◌}
 use Rattle.std.proofs.lemmas.Option.{none-some, same_Some}
 use Rattle.std.proofs.lemmas.Bool.{false≢true}
+use Rattle.std.specs.Prelude.{slice_get, if◌then◌else◌}
 use Rattle.cc_ops.specs.Values.{Value, Void, Int, Null, Ptr}
-use Rattle.cc_ops.specs.Machine.{Address}
-use Rattle.cc_core.specs.Core.{Shapes}
-use Rattle.cc_core.specs.Effects.{numbers}
-use Rattle.cc_core.specs.Asks.{Ask, Answer, Reads, Writes, Copies, Indexes, Shifts, Computes, Tests, Makes, MakesWith, Builds, Enters, Leaves}
-use Rattle.cc_core.specs.Asks.{ForksAll, ForksOne, Joins, Spawns, Prints, Calls, Casts, NewProcessor}
-use Rattle.cc_code.specs.Code.{Code, Thread, Then, Does, move}
-use Rattle.code_names.specs.Same.{Pairwise}
+use Rattle.cc_ops.specs.Machine.{Address, Values}
 use Rattle.cc_ops.specs.declared.number.ThreadNo.{ThreadNo}
 use Rattle.cc_ops.specs.Shelves.{Shelf, changed}
-use Rattle.cc_ops.specs.Machine.{Values}
+use Rattle.cc_core.specs.Core.{Shapes}
+use Rattle.cc_core.specs.Asks.{Ask, Answer, Reads, Writes, Copies, Indexes, Shifts, Computes, Tests, Makes, MakesWith, Builds, Enters, Leaves}
+use Rattle.cc_core.specs.Asks.{ForksAll, ForksOne, Joins, Spawns, Prints, Calls, Casts, NewProcessor}
+use Rattle.cc_core.specs.Effects.{numbers, branch_count, is_call}
 use Rattle.cc_core.specs.Needs.{Go}
+use Rattle.cc_code.specs.Code.{Code, Thread, Then, Does, move}
+use Rattle.code_names.specs.Same.{Pairwise}
 use Rattle.numbered_runs.specs.Effects.{Effect, effect}
-use Rattle.cc_core.specs.Effects.{branch_count, is_call}
 use Rattle.numbered_runs.specs.Steps.{settle, numbers_on}
 use Rattle.numbered_runs.proofs.Lists.{get_in_front, pairwise_length}
 use Rattle.law_mesh.specs.Spots.{Fiber, Cell, Lock, Branches, Spot, Active, Parked, Posted, Delayed, Answered, Calling, Called, Gone, Mesh, item_in, put_item, shown, runs, verdict}

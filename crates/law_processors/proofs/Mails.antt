@@ -4,11 +4,11 @@ use Rattle.std.specs.Prelude.{slice_get}
 use Rattle.std.proofs.lemmas.Option.{none-some, same_Some}
 use Rattle.cc_ops.specs.Values.{Value}
 use Rattle.cc_ops.specs.Machine.{Address}
+use Rattle.cc_ops.specs.declared.number.ThreadNo.{ThreadNo}
+use Rattle.cc_ops.specs.Shelves.{changed}
 use Rattle.cc_core.specs.Numbers.{Post}
 use Rattle.cc_code.specs.Code.{Code}
 use Rattle.code_names.specs.Same.{Pairwise}
-use Rattle.cc_ops.specs.declared.number.ThreadNo.{ThreadNo}
-use Rattle.cc_ops.specs.Shelves.{changed}
 use Rattle.law_mesh.specs.Spots.{Spot, Posted, Answered, Called, Mesh, item_in}
 use Rattle.law_mesh.specs.Queues.{Queue, Hand, Ready, OfCell, OfLock, Inbox, Outbox, Makes, Message, Asks, Answers, asker, Item, Mail, Hold as HoldLists, MayLie, AsksAt, AnswersAt, target}
 use Rattle.law_processors.specs.Processors.{Processor, Processors, IsEntry, caller_of, lists, shelves_of, tables_of, Runs, with_processor}

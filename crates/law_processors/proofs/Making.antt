@@ -6,17 +6,16 @@ use Rattle.std.proofs.lemmas.Option.{none-some, same_Some}
 use Rattle.global_ptr.specs.declared.ends.FaultKind.{FaultKind}
 use Rattle.cc_ops.specs.Values.{Value, Cell, Ptr, Result, Gives, Fails}
 use Rattle.cc_ops.specs.Classes.{construct}
-use Rattle.cc_ops.specs.Machine.{Address, same_address}
+use Rattle.cc_ops.specs.Machine.{Address, same_address, Values}
+use Rattle.cc_ops.specs.declared.number.ThreadNo.{ThreadNo}
+use Rattle.cc_ops.specs.Shelves.{Shelf, no_shelf, changed}
 use Rattle.cc_core.specs.Core.{class_shape}
 use Rattle.cc_core.specs.Asks.{Answer, NewProcessor}
 use Rattle.cc_core.specs.Numbers.{Get, Put, Call, Cast, Make}
-use Rattle.cc_code.specs.Code.{Code, Then, Does, move}
-use Rattle.code_names.specs.Same.{Pairwise}
-use Rattle.cc_ops.specs.declared.number.ThreadNo.{ThreadNo}
-use Rattle.cc_ops.specs.Shelves.{Shelf, no_shelf, changed}
-use Rattle.cc_ops.specs.Machine.{Values}
 use Rattle.cc_core.specs.Needs.{Verdict, Go, Hold, Bad, and_also, of_result}
 use Rattle.cc_core.specs.Effects.{constructed}
+use Rattle.cc_code.specs.Code.{Code, Then, Does, move}
+use Rattle.code_names.specs.Same.{Pairwise}
 use Rattle.numbered_runs.proofs.Lists.{get_last, both_found, pairwise_push}
 use Rattle.law_mesh.specs.Spots.{Fiber, Spot, Posted, Answered, Calling, Mesh, item_in, put_item, verdict}
 use Rattle.law_mesh.specs.Moves.{Serves, served_step, Asking as AskingAt, FaultsAt, ServedBadly, served}
@@ -125,7 +124,7 @@ module _ (m : Processors) (n : Mesh) (runs : Runs m n) where
     asking : AskingAt n t (Posted f) f line (NewProcessor c vs) g
     asking = record { at = stands; asks = in_mesh }
 
-    verdict_so : (v : Verdict) → verdict (seen_by_makes m) 0 nobody (NewProcessor c vs) ≡ v → verdict n t.processor f (NewProcessor c vs) ≡ v
+    verdict_so : (v : Verdict Address) → verdict (seen_by_makes m) 0 nobody (NewProcessor c vs) ≡ v → verdict n t.processor f (NewProcessor c vs) ≡ v
     verdict_so v e =
         ap (λ (z : Code). verdict (record n { code = z }) 0 nobody (NewProcessor c vs)) (sym runs.code)
         ∙ (ap (λ ss. verdict (record n { code = m.code; shelves = ss }) 0 nobody (NewProcessor c vs)) (sym runs.shelves) ∙ e)
@@ -301,11 +300,11 @@ module _ (m : Processors) (n : Mesh) (runs : Runs m n) where
         });
       }
 
-  make_verdict : (t : ThreadNo) (c : ℕ) (vs : List (Value Address)) (rest : List Message) → m.makes ≡ Asks t (Make c vs) ∷ rest → (v : Verdict)
+  make_verdict : (t : ThreadNo) (c : ℕ) (vs : List (Value Address)) (rest : List Message) → m.makes ≡ Asks t (Make c vs) ∷ rest → (v : Verdict Address)
       → verdict (seen_by_makes m) 0 nobody (NewProcessor c vs) ≡ v → FineMake (makes_so t c vs rest m v)
   make_verdict t c vs rest first_so v go = by (asking_is m.code (lists m) n.spots runs.lists Makes [] (map Mail rest) t (Make c vs) (ap (map Mail) first_so)) v go
     where
-      by : IsAsking m.code (lists m) n.spots runs.lists Makes [] (map Mail rest) t (Make c vs) → (w : Verdict) → verdict (seen_by_makes m) 0 nobody (NewProcessor c vs) ≡ w
+      by : IsAsking m.code (lists m) n.spots runs.lists Makes [] (map Mail rest) t (Make c vs) → (w : Verdict Address) → verdict (seen_by_makes m) 0 nobody (NewProcessor c vs) ≡ w
           → FineMake (makes_so t c vs rest m w)
       by (IsDelayed b x f stands e) w d = let z : Makes ≡ OfCell b x = e in absurd (cc)
       by (IsPosted f stands posts lies) Hold d = unmoves

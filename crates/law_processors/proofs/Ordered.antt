@@ -1,20 +1,20 @@
 -- Each move leaves all processors in order.
 use Rattle.law_processors.specs.Alone.{Label}
 use Rattle.std.proofs.Common.{◌≡◌, ◌⊎◌, inl, inr, ⊎_elim, ℕ, zero, suc, List, [], ◌∷◌, ◌++◌, map, Bool, Option, Some, None, refl, sym, ap, ◌∙◌, subst, ℤ}
-use Rattle.std.specs.Prelude.{slice_get}
 use Rattle.std.specs.Option.{option_and_then}
+use Rattle.std.specs.Prelude.{slice_get}
 use Rattle.std.proofs.lemmas.Option.{none-some, same_Some}
 use Rattle.cc_ops.specs.Values.{Value, Cell, Ptr}
 use Rattle.cc_ops.specs.Classes.{construct}
 use Rattle.cc_ops.specs.Machine.{Address, same_address}
+use Rattle.cc_ops.specs.declared.number.ThreadNo.{ThreadNo}
+use Rattle.cc_ops.specs.Shelves.{changed}
 use Rattle.cc_core.specs.Asks.{NewProcessor}
 use Rattle.cc_core.specs.Core.{Program, class_shape}
 use Rattle.cc_core.specs.Numbers.{Post, Get, Put, Call, Cast, Make}
-use Rattle.cc_code.specs.Code.{Code}
-use Rattle.cc_ops.specs.declared.number.ThreadNo.{ThreadNo}
 use Rattle.cc_core.specs.Effects.{constructed}
-use Rattle.cc_ops.specs.Shelves.{changed}
 use Rattle.cc_core.specs.Needs.{Verdict, Go, Hold, Bad}
+use Rattle.cc_code.specs.Code.{Code}
 use Rattle.law_mesh.specs.Spots.{Fiber, Lock, Active, Parked, Called, Mesh, item_in, verdict}
 use Rattle.law_mesh.specs.Queues.{Queue, Hand, OfCell, OfLock, Ready, Inbox, Message, Asks, Answers, Item, Itself, Mail, AsksAt}
 use Rattle.law_processors.specs.Processors.{Waiter, Asked, Goes, Joins, Asking, Has, Entry, Lives, Ended, Locked, Processor, Processors, IsEntry, lists, lock_items, waiter_item, Runs, with_processor}
@@ -205,7 +205,7 @@ abbrev pub OrderlyMade : Code → Did Processors → Type 0
 OrderlyMade code (Went step prints m') = OrderlyAll code m'.all
 OrderlyMade code (Failed kind t) = Unit {0}
 
-makes_so_orderly : (m : Processors) → OrderlyAll m.code m.all → (t : ThreadNo) (c : ℕ) (vs : List (Value Address)) (rest : List Message) (v : Verdict) → OrderlyMade m.code (makes_so t c vs rest m v)
+makes_so_orderly : (m : Processors) → OrderlyAll m.code m.all → (t : ThreadNo) (c : ℕ) (vs : List (Value Address)) (rest : List Message) (v : Verdict Address) → OrderlyMade m.code (makes_so t c vs rest m v)
 makes_so_orderly m h t c vs rest (Go found) =
     let cells = constructed (construct same_address (class_shape m.code.shapes c) vs) in
     let more = all_more m.code m.all (new_processor cells) (new_orderly m.code cells) h in
@@ -259,7 +259,7 @@ module _ (m : Processors) (n : Mesh) (runs : Runs m n) (h : OrderlyAll m.code m.
           CodeIs (Went s pr y) = m.code ≡ y.code
           CodeIs (Failed k t) = Unit {0}
 
-          same_so : (t : ThreadNo) (c : ℕ) (vs : List (Value Address)) (rest : List Message) (v : Verdict) → CodeIs (makes_so t c vs rest m v)
+          same_so : (t : ThreadNo) (c : ℕ) (vs : List (Value Address)) (rest : List Message) (v : Verdict Address) → CodeIs (makes_so t c vs rest m v)
           same_so t c vs rest (Go found) = refl
           same_so t c vs rest Hold = refl
           same_so t c vs rest (Bad kind) = tt

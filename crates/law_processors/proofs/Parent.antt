@@ -2,8 +2,8 @@
 use Rattle.std.proofs.Common.{◌≡◌, ⊎_elim, ℕ, zero, suc, ◌<◌, ◌≤◌, [], map, true, Option, Some, None, refl, ap, ◌∙◌, arith}
 use Rattle.std.specs.Prelude.{slice_get, if◌then◌else◌}
 use Rattle.std.proofs.lemmas.Bool.{cases_lt}
-use Rattle.cc_code.specs.Code.{Code, move}
 use Rattle.cc_ops.specs.declared.number.ThreadNo.{ThreadNo}
+use Rattle.cc_code.specs.Code.{Code, move}
 use Rattle.law_processors.specs.Alone.{alone_at, be_ready, put_entry, rejoins, rejoined, seen_entry}
 use Rattle.law_processors.specs.Processors.{Own, Goes, Joins, Asking, Has, Entry, Lives, Ended, Processor}
 use Rattle.law_processors.specs.Orderly.{OthersWait}

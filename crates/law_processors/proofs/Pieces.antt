@@ -3,14 +3,14 @@ use Rattle.law_mesh.specs.Moves.{Step}
 use Rattle.law_processors.proofs.Base.{append_none}
 use Rattle.std.proofs.Common.{append_assoc}
 use Rattle.std.proofs.Common.{◌≡◌, inr, ℕ, zero, suc, ◌+◌, List, [], ◌++◌, length, map, Bool, true, false, Option, Some, None, refl, sym, ap, ◌∙◌, subst, arith}
-use Rattle.std.specs.Prelude.{slice_get, if◌then◌else◌}
 use Rattle.std.proofs.lemmas.Option.{none-some, same_Some}
+use Rattle.std.specs.Prelude.{slice_get, if◌then◌else◌}
 use Rattle.cc_ops.specs.Values.{Value}
 use Rattle.cc_ops.specs.Machine.{Address}
-use Rattle.cc_code.specs.Code.{Code, Ends, move}
-use Rattle.code_names.specs.Same.{Pairwise}
 use Rattle.cc_ops.specs.declared.number.ThreadNo.{ThreadNo}
 use Rattle.cc_ops.specs.Shelves.{changed}
+use Rattle.cc_code.specs.Code.{Code, Ends, move}
+use Rattle.code_names.specs.Same.{Pairwise}
 use Rattle.law_mesh.specs.Spots.{Fiber, Cell, Lock, Branches, Spot, Active, Parked, Posted, Delayed, Answered, Calling, Called, Gone, Mesh, item_in, put_item}
 use Rattle.law_mesh.specs.Moves.{Moves, Finishes, Rouses, Tells, with_spot}
 use Rattle.law_processors.specs.Living.{one_lives, joins_of}

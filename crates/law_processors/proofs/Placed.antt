@@ -4,11 +4,11 @@ use Rattle.std.specs.Option.{option_map_or}
 use Rattle.global_ptr.specs.declared.ends.FaultKind.TheVariants.{NullPointer}
 use Rattle.cc_ops.specs.Machine.{Address}
 use Rattle.cc_ops.specs.Values.{Value}
+use Rattle.cc_ops.specs.declared.number.ThreadNo.{ThreadNo}
 use Rattle.cc_core.specs.Asks.{Ask, Answer}
 use Rattle.cc_core.specs.Numbers.{Post, Get, Put, Call, Cast, Make}
-use Rattle.cc_code.specs.Code.{Code, Then, Move, Silent, Does, Ends, Stuck, move}
-use Rattle.cc_ops.specs.declared.number.ThreadNo.{ThreadNo}
 use Rattle.cc_core.specs.Needs.{Verdict, Go, Hold, Bad}
+use Rattle.cc_code.specs.Code.{Code, Then, Move, Silent, Does, Ends, Stuck, move}
 use Rattle.numbered_runs.specs.Posts.{posted}
 use Rattle.law_mesh.specs.Spots.{Fiber, Mesh, verdict}
 use Rattle.law_mesh.specs.Queues.{Queue, Item, Mail, Message, Asks, Answers, Inbox, Ready, OfCell, target, holds_none}
@@ -34,7 +34,7 @@ module _ {A : Type 0} where
 -- ---- the thread in the hand
 
 module _ (code : Code) (q n : ℕ) (f : Fiber) (caller : Option ThreadNo) (ask : Ask Address) (k : Answer Address → Then Address) (p : Processor) where
-  decided_placed : (v : Verdict) → Placed (decided code q n f caller ask k p v)
+  decided_placed : (v : Verdict Address) → Placed (decided code q n f caller ask k p v)
   decided_placed (Go found) = by (may_step code q n f caller ask k p found)
     where
       by : (b : Bool) → Placed (if b then Went (Some (OwnStep (record { processor = q; thread = n }))) (effect_here code q n f caller ask k p found).prints
@@ -85,7 +85,7 @@ module _ (code : Code) (q : ℕ) (p : Processor) where
 
   -- ---- requests
 
-  so_placed : (t : ThreadNo) (post : Post) (v : Verdict) (after before : Processor) → target post ≡ Some q → Placed (served_so q t post v after before)
+  so_placed : (t : ThreadNo) (post : Post) (v : Verdict Address) (after before : Processor) → target post ≡ Some q → Placed (served_so q t post v after before)
   so_placed t post (Go found) after before on = on
   so_placed t post Hold after before on = tt
   so_placed t post (Bad kind) after before on = tt
@@ -127,7 +127,7 @@ module _ (m : Processors) (n : Mesh) (runs : Runs m n) where
         by (IsDelayed b x f stands d) = let z : Ready q ≡ OfCell b x = d in absurd (cc)
         by (IsPosted f stands posts lies) = so_placed m.code q p t post _ (without_ready (front ++ back) p) p lies
 
-  verdict_placed : (t : ThreadNo) (c : ℕ) (vs : List (Value Address)) (rest : List Message) (v : Verdict) → Placed (makes_so t c vs rest m v)
+  verdict_placed : (t : ThreadNo) (c : ℕ) (vs : List (Value Address)) (rest : List Message) (v : Verdict Address) → Placed (makes_so t c vs rest m v)
   verdict_placed t c vs rest (Go found) = refl
   verdict_placed t c vs rest Hold = tt
   verdict_placed t c vs rest (Bad kind) = tt

@@ -1,22 +1,22 @@
 -- What an ask finds on a processor it finds in the mesh.
-use Rattle.std.proofs.Common.{◌≡◌, ℕ, zero, suc, List, [], ◌∷◌, map, Bool, true, false, ◌&&◌, Option, Some, None, refl, sym, ap, ◌∙◌}
-use Rattle.std.specs.Prelude.{slice_get, if◌then◌else◌}
+use Rattle.std.proofs.Common.{◌≡◌, ℕ, zero, suc, List, [], ◌∷◌, length, map, Bool, true, false, ◌&&◌, Option, Some, None, refl, sym, ap, ◌∙◌}
+use Rattle.std.specs.Prelude.{slice_get}
 use Rattle.std.specs.Option.{option_and_then}
 use Rattle.std.proofs.lemmas.Bool.{false≢true}
+use Rattle.std.proofs.lemmas.List.{length-map}
 use Rattle.cc_ops.specs.Values.{Value, Void, Int, Null, Ptr}
 use Rattle.cc_ops.specs.Machine.{Address}
+use Rattle.cc_ops.specs.declared.number.ThreadNo.{ThreadNo}
+use Rattle.cc_ops.specs.Shelves.{Shelf, no_shelf, home_in}
 use Rattle.cc_core.specs.Asks.{Ask, Reads, Writes, Copies, Indexes, Shifts, Computes, Tests, Makes, MakesWith, Builds, Enters, Leaves}
 use Rattle.cc_core.specs.Asks.{ForksAll, ForksOne, Joins, Spawns, Prints, Calls, Casts, NewProcessor}
 use Rattle.cc_core.specs.Numbers.{Post, Get, Put, Call, Cast, Make}
+use Rattle.cc_core.specs.Needs.{verdict_on_all}
 use Rattle.cc_code.specs.Code.{Code}
 use Rattle.code_names.specs.Same.{Pairwise}
-use Rattle.cc_ops.specs.declared.number.ThreadNo.{ThreadNo}
-use Rattle.cc_ops.specs.Shelves.{Shelf, no_shelf}
-use Rattle.numbered_runs.specs.Machine.{Progress}
-use Rattle.cc_core.specs.Needs.{Go, Hold}
-use Rattle.numbered_runs.specs.Looks.{needs, check_all}
-use Rattle.numbered_runs.proofs.Lists.{get_changed, pairwise_right}
-use Rattle.law_mesh.specs.Spots.{Fiber, Spot, Active, Parked, Posted, Delayed, Answered, Calling, Called, Gone, Mesh, shown, runs, counted, some_progress, verdict, is_gone, kid_gone, all_gone}
+use Rattle.numbered_runs.specs.Looks.{needs}
+use Rattle.numbered_runs.proofs.Lists.{get_changed, pairwise_length, pairwise_right}
+use Rattle.law_mesh.specs.Spots.{Fiber, Spot, Active, Parked, Posted, Delayed, Answered, Calling, Called, Gone, Mesh, made_of, looks, verdict, is_gone, kid_gone}
 use Rattle.law_mesh.specs.Local.{IsOn, KidsOn, KidOn, AnsweredOn, AreOn}
 use Rattle.law_processors.specs.Processors.{Goes, Joins as JoinsBranches, Asking, Has, Entry, Lives, Ended, Processor, Processors, IsEntry}
 use Rattle.law_processors.specs.Alone.{alone_at, seen_entry, seen, is_on, all_on, kid_on, kids_on, asks_here, nobody, ask_of}
@@ -31,15 +31,11 @@ pub alone_there : {X : Type 0} (q : ℕ) (none x : X) → slice_get (alone_at q 
 alone_there zero none x = refl
 alone_there (suc q) none x = alone_there q none x
 
-counted_row : (es : List Entry) (ps : List Spot) → Pairwise IsEntry es ps → map some_progress ps ≡ map some_progress (map seen_entry es)
-counted_row [] [] h = refl
-counted_row [] (p ∷ ps) h = absurd h
-counted_row (e ∷ es) [] h = absurd h
-counted_row (e ∷ es) (p ∷ ps) h = ap (λ (xs : List Progress). some_progress p ∷ xs) (counted_row es ps h.1)
-
-counted_alone : (q : ℕ) (xs ys : List Spot) → map some_progress xs ≡ map some_progress ys → counted (alone_at q [] xs) ≡ counted (alone_at q [] ys)
-counted_alone zero xs ys e = ap (λ (zs : List Progress). zs ∷ []) e
-counted_alone (suc q) xs ys e = ap (λ (zs : List (List Progress)). [] ∷ zs) (counted_alone q xs ys e)
+made_alone : (q : ℕ) (xs ys : List Spot) → length xs ≡ length ys → (h : ℕ) → made_of (alone_at q [] xs) h ≡ made_of (alone_at q [] ys) h
+made_alone zero xs ys e zero = e
+made_alone zero xs ys e (suc h) = refl
+made_alone (suc q) xs ys e zero = refl
+made_alone (suc q) xs ys e (suc h) = made_alone q xs ys e h
 
 gone_one : (e : Entry) (p : Spot) → IsEntry e p → is_gone (Some p) ≡ is_gone (Some (seen_entry e))
 gone_one (Lives f Goes k) (Active g) h = refl
@@ -125,12 +121,8 @@ module _ (code : Code) (shelves : List Shelf) (q : ℕ) (es : List Entry) (ps : 
   abbrev told : Mesh
   told = record { code = code; shelves = shelves; spots = alone_at q [] (map seen_entry es); holder = h'; output = o' }
 
-  count : counted (alone_at q [] ps) ≡ counted (alone_at q [] (map seen_entry es))
-  count = counted_alone q ps (map seen_entry es) (counted_row es ps alike)
-
-  by_count : (ask : Ask Address) → check_all (shown known (counted known.spots)) i (runs f None []) (needs code.shapes ask)
-      ≡ check_all (shown known (counted told.spots)) i (runs f None []) (needs code.shapes ask)
-  by_count ask = ap (λ c. check_all (shown known c) i (runs f None []) (needs code.shapes ask)) count
+  made_so : (p : ℕ) → made_of known.spots p ≡ made_of told.spots p
+  made_so = made_alone q ps (map seen_entry es) (sym (pairwise_length IsEntry es ps alike) ∙ sym (length-map es seen_entry))
 
   kid_so : (kids : List (Option ThreadNo)) (k : ℕ) → kid_gone known.spots kids k ≡ kid_gone told.spots kids k
   kid_so [] k = refl
@@ -138,31 +130,15 @@ module _ (code : Code) (shelves : List Shelf) (q : ℕ) (es : List Entry) (ps : 
   kid_so (Some t ∷ kids) zero = gone_in_table q es ps alike t.processor t.thread
   kid_so (kid ∷ kids) (suc k) = kid_so kids k
 
-  kids_so : (ks : List ℕ) → all_gone known.spots f.kids ks ≡ all_gone told.spots f.kids ks
-  kids_so [] = refl
-  kids_so (k ∷ ks) = ap (λ b. b && all_gone known.spots f.kids ks) (kid_so f.kids k) ∙ ap (λ b. kid_gone told.spots f.kids k && b) (kids_so ks)
+  looks_so : looks known i f ≡ looks told i f
+  looks_so = λ j. record (looks known i f) {
+    ended = λ k. kid_so f.kids k j;
+    threads = made_so i j;
+    threads_at = λ p. made_so (home_in p) j;
+  }
 
   pub verdict_so : (ask : Ask Address) → verdict known i f ask ≡ verdict told i f ask
-  verdict_so (Joins made) = ap (λ b. if b then Go [] else Hold) (kids_so made)
-  verdict_so (Reads remote a) = by_count (Reads remote a)
-  verdict_so (Writes remote a v) = by_count (Writes remote a v)
-  verdict_so (Copies a n) = by_count (Copies a n)
-  verdict_so (Indexes a n j) = by_count (Indexes a n j)
-  verdict_so (Shifts a j) = by_count (Shifts a j)
-  verdict_so (Computes op vs) = by_count (Computes op vs)
-  verdict_so Tests = by_count Tests
-  verdict_so (Makes kind n) = by_count (Makes kind n)
-  verdict_so (MakesWith kind v) = by_count (MakesWith kind v)
-  verdict_so (Builds c vs) = by_count (Builds c vs)
-  verdict_so (Enters g p vs) = by_count (Enters g p vs)
-  verdict_so Leaves = by_count Leaves
-  verdict_so (ForksAll n) = by_count (ForksAll n)
-  verdict_so (ForksOne v) = by_count (ForksOne v)
-  verdict_so (Spawns g p vs) = by_count (Spawns g p vs)
-  verdict_so (Prints parts vs) = by_count (Prints parts vs)
-  verdict_so (Calls g p vs) = by_count (Calls g p vs)
-  verdict_so (Casts g p vs) = by_count (Casts g p vs)
-  verdict_so (NewProcessor c vs) = by_count (NewProcessor c vs)
+  verdict_so ask = ap (λ w. verdict_on_all code.shapes w (needs code.shapes ask)) looks_so
 
 module _ (m : Processors) (q : ℕ) (p0 : Processor) (there : slice_get m.all q ≡ Some p0) (p : Processor) (output : List ℕ) (n : Mesh)
     (base : Base m q p.shelf p.table output n) where

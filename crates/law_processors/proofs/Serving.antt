@@ -7,19 +7,18 @@ use Rattle.std.specs.Option.{option_and_then}
 use Rattle.global_ptr.specs.declared.ends.FaultKind.{FaultKind}
 use Rattle.cc_ops.specs.Values.{Value, Void, Int, Null, Ptr, first}
 use Rattle.cc_ops.specs.Values as values
-use Rattle.cc_ops.specs.Machine.{Address}
-use Rattle.cc_core.specs.Asks.{Ask, Answer, Reads, Writes, Calls, Casts, NewProcessor}
-use Rattle.cc_core.specs.Numbers.{Post, Get, Put, Call, Cast, Make}
-use Rattle.cc_code.specs.Code.{Code, Thread, Then, Move, Silent, Does, Ends, Stuck, Starting, move}
+use Rattle.cc_ops.specs.Machine.{Address, Values}
 use Rattle.cc_ops.specs.declared.number.ThreadNo.{ThreadNo}
 use Rattle.cc_ops.specs.Shelves.{Shelf, changed}
-use Rattle.cc_ops.specs.Machine.{Values}
+use Rattle.cc_core.specs.Asks.{Ask, Answer, Reads, Writes, Calls, Casts, NewProcessor}
+use Rattle.cc_core.specs.Numbers.{Post, Get, Put, Call, Cast, Make}
 use Rattle.cc_core.specs.Needs.{Verdict, Go, Hold, Bad, and_also, read, writable}
+use Rattle.cc_code.specs.Code.{Code, Thread, Then, Move, Silent, Does, Ends, Stuck, Starting, move}
 use Rattle.numbered_runs.specs.Effects.{Effect}
 use Rattle.numbered_runs.specs.Posts.{posted, move_posts, where_address}
 use Rattle.numbered_runs.specs.Steps.{settle}
-use Rattle.law_mesh.specs.Spots.{Fiber, Spot, Active, Posted, Delayed, Answered, Calling, Mesh, item_in, put_item, runs, verdict}
-use Rattle.law_mesh.specs.Moves.{Serves, ServesCall, served_step, Delays, Asking as AskingAt, with_spot, served, call_served, effect_of, push_item, push_items, new_spots, new_fiber, made_of, held_then, tables, home, values_given, gone_on, its_new}
+use Rattle.law_mesh.specs.Spots.{Fiber, Spot, Active, Posted, Delayed, Answered, Calling, Mesh, item_in, put_item, runs, verdict, made_of}
+use Rattle.law_mesh.specs.Moves.{Serves, ServesCall, served_step, Delays, Asking as AskingAt, with_spot, served, call_served, effect_of, push_item, push_items, new_spots, new_fiber, held_then, tables, home, values_given, gone_on, its_new}
 use Rattle.law_mesh.specs.Local.{AnsweredOn, write_on}
 use Rattle.law_mesh.specs.Queues.{Queue, OfCell, Outbox, Asks, Answers, Item, Mail, Hold as HoldLists, AsksBy, IsAnswered, holds_none}
 use Rattle.law_processors.specs.Processors.{Asked, Goes, Joins, Asking, Has, Entry, Lives, Ended, Processor, Processors, IsEntry, shelves_of, lists, with_processor}
@@ -175,7 +174,7 @@ module _ (m : Processors) (q : ℕ) (p0 : Processor) (there : slice_get m.all q 
     forks : (Forks (ask_of post) → ⊥) → (x : Answer Address) → (g x).branches ≡ []
     forks none = subst ForksNone in_mesh (moves_fork_none n.code f.thread) none
 
-    pub found_there : (v : Verdict) → AnsweredOn q t.processor f (ask_of post) → verdict (seen m.code q p1) q nobody (ask_of post) ≡ v
+    pub found_there : (v : Verdict Address) → AnsweredOn q t.processor f (ask_of post) → verdict (seen m.code q p1) q nobody (ask_of post) ≡ v
         → verdict n t.processor f (ask_of post) ≡ v
     found_there v on go =
         seen_so m q p0 there p1 output n base t.processor f (ask_of post) on

@@ -2,12 +2,12 @@
 use Rattle.law_processors.specs.Alone.{Label}
 use Rattle.std.proofs.Common.{◌≡◌, ◌<◌, ℕ, ℤ, suc, ◌+◌, List, [], ◌∷◌, length, false, Option, Some, None, refl, ap, ◌∙◌, arith}
 use Rattle.std.specs.Prelude.{slice_get}
+use Rattle.cc_ops.specs.declared.number.ThreadNo.{ThreadNo}
 use Rattle.cc_core.specs.Config.{Config}
 use Rattle.cc_core.specs.Core.{Program}
 use Rattle.cc_core.specs.Numbers.{Post, Numbers}
 use Rattle.cc_core.specs.Source.{IsProgram}
 use Rattle.cc_core.specs.Steps as core
-use Rattle.cc_ops.specs.declared.number.ThreadNo.{ThreadNo}
 use Rattle.law_mesh.specs.Queues.{Message}
 use Rattle.law_processors.specs.Processors.{Waiter, Own, Asked, Processor, Processors, tables_of}
 use Rattle.law_processors.specs.Alone.{Did, Went, Failed, served, serves}

@@ -2,17 +2,17 @@
 use Rattle.cc_core.specs.Numbers.{first_numbers}
 use Rattle.law_processors.specs.Alone.{Label}
 use Rattle.std.proofs.Common.{◌≡◌, ◌⊎◌, ⊎_elim, ◌<◌, ℕ, List, [], length, Bool, true, false, Option, Some, None, refl, sym, ap, subst, ◌∙◌}
-use Rattle.std.specs.Prelude.{ℤ, slice_get}
 use Rattle.std.specs.FinMap as fin
 use Rattle.std.specs.Option.{option_map_or}
+use Rattle.std.specs.Prelude.{ℤ, slice_get}
 use Rattle.std.proofs.lemmas.Option.{none-some}
 use Rattle.std.proofs.lemmas.Bool.{false≢true}
 use Rattle.cc_ops.specs.Values.{Ptr}
+use Rattle.cc_ops.specs.Shelves.{Thing, Shelf}
 use Rattle.cc_core.specs.Core.{Program, function, shapes}
-use Rattle.cc_core.specs.Needs.{any_holds}
 use Rattle.cc_core.specs.Source.{IsProgram}
 use Rattle.cc_core.specs.Steps as core
-use Rattle.cc_ops.specs.Shelves.{Thing, Shelf}
+use Rattle.cc_core.specs.Needs.{any_holds}
 use Rattle.numbered_runs.specs.Stands.{IsShelf, IsThingAt}
 use Rattle.numbered_runs.proofs.Lists.{pairwise_left}
 use Rattle.core_types.specs.Types.{Types}

@@ -7,24 +7,24 @@ use Rattle.std.specs.List.{AllByRecursion}
 use Rattle.law_processors.proofs.Placed.{ArePlaced, moves_placed}
 use Rattle.law_processors.proofs.Edits.{map_append}
 use Rattle.std.proofs.Common.{◌≡◌, ◌<◌, ℕ, zero, suc, ◌+◌, List, [], ◌∷◌, ◌++◌, length, map, Option, Some, None, refl, sym, ap, ◌∙◌, subst, arith, ℤ}
-use Rattle.std.specs.Prelude.{slice_get}
 use Rattle.std.specs.Option.{option_and_then}
+use Rattle.std.specs.Prelude.{slice_get}
 use Rattle.std.proofs.lemmas.Option.{none-some}
 use Rattle.global_ptr.specs.declared.ends.FaultKind.{FaultKind}
 use Rattle.cc_ops.specs.declared.kind.Kind.{Kind}
+use Rattle.cc_ops.specs.declared.number.ThreadNo.{ThreadNo}
+use Rattle.cc_ops.specs.Shelves.{Shelf, no_shelf}
+use Rattle.cc_ops.specs.Machine.{Values}
 use Rattle.cc_core.specs.Config.{Config}
 use Rattle.cc_core.specs.Core.{Program, function}
 use Rattle.cc_core.specs.Names.{Name}
 use Rattle.cc_core.specs.Numbers.{Numbers, first_numbers}
 use Rattle.cc_core.specs.Source.{IsProgram}
 use Rattle.cc_core.specs.Steps as core
+use Rattle.cc_core.specs.Effects.{cells_with}
 use Rattle.cc_code.specs.Layout.{layout}
 use Rattle.numbered_runs.specs.Alike.{ints}
-use Rattle.cc_ops.specs.declared.number.ThreadNo.{ThreadNo}
 use Rattle.numbered_runs.specs.Effects.{parameters, put_things}
-use Rattle.cc_core.specs.Effects.{cells_with}
-use Rattle.cc_ops.specs.Shelves.{Shelf, no_shelf}
-use Rattle.cc_ops.specs.Machine.{Values}
 use Rattle.numbered_runs.specs.Stands.{IsThread}
 use Rattle.law_mesh.specs.Begins.{first_fiber, first_mesh}
 use Rattle.law_mesh.specs.Local.{put_all_on, with_new}

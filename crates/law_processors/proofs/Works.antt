@@ -1,21 +1,20 @@
 -- What one processor does, the mesh does that the machine shows.
 use Rattle.law_processors.specs.Alone.{OwnStep}
 use Rattle.std.proofs.Common.{◌≡◌, inl, ℕ, List, [], ◌∷◌, ◌++◌, map, Bool, true, false, not, Option, Some, None, refl, sym, ap, ◌∙◌, subst}
-use Rattle.std.specs.Prelude.{slice_get, if◌then◌else◌}
 use Rattle.std.proofs.lemmas.Option.{none-some, same_Some}
 use Rattle.std.proofs.lemmas.Bool.{false≢true}
+use Rattle.std.specs.Prelude.{slice_get, if◌then◌else◌}
 use Rattle.global_ptr.specs.declared.ends.FaultKind.{FaultKind}
 use Rattle.global_ptr.specs.declared.ends.FaultKind.TheVariants.{NullPointer}
 use Rattle.cc_ops.specs.Values.{Value, Void, Int, Null, Ptr}
-use Rattle.cc_ops.specs.Machine.{Address}
-use Rattle.cc_core.specs.Asks.{Ask, Answer, Calls, Casts}
-use Rattle.cc_core.specs.Numbers.{Post, Get, Put, Call, Cast, Make}
-use Rattle.cc_code.specs.Code.{Code, Then, Move, Silent, Does, Ends, Stuck, move}
+use Rattle.cc_ops.specs.Machine.{Address, Values}
 use Rattle.cc_ops.specs.declared.number.ThreadNo.{ThreadNo}
 use Rattle.cc_ops.specs.Shelves.{home_in}
-use Rattle.law_mesh.specs.Local.{AnsweredOn}
-use Rattle.cc_ops.specs.Machine.{Values}
+use Rattle.cc_core.specs.Asks.{Ask, Answer, Calls, Casts}
+use Rattle.cc_core.specs.Numbers.{Post, Get, Put, Call, Cast, Make}
 use Rattle.cc_core.specs.Needs.{Verdict, Go, Hold, Bad}
+use Rattle.cc_code.specs.Code.{Code, Then, Move, Silent, Does, Ends, Stuck, move}
+use Rattle.law_mesh.specs.Local.{AnsweredOn}
 use Rattle.numbered_runs.specs.Posts.{posted}
 use Rattle.law_mesh.specs.Spots.{Fiber, Spot, Active, Posted, Answered, Called, Mesh, item_in, put_item, verdict, answered}
 use Rattle.law_mesh.specs.Moves.{Comes, Asking as AskingAt, FaultsAt, ActsBadly, ServedBadly, with_spot, with_spots}
@@ -95,7 +94,7 @@ module _ (m : Processors) (n : Mesh) (runs : Runs m n) (q : ℕ) (p : Processor)
           subst (FaultsAt n (record { processor = q; thread = i }) kind) (sym (line_is (record { processor = q; thread = i }) (Active f) f line ask k stands (active_line f) asks))
           (ActsBadly f ask k asking bad)
 
-      fine_decided : posted ask ≡ None → asks_here q f ask ≡ true → (v : Verdict) → verdict (seen m.code q p) q f ask ≡ v → Fine (decided m.code q i f caller ask k p v)
+      fine_decided : posted ask ≡ None → asks_here q f ask ≡ true → (v : Verdict Address) → verdict (seen m.code q p) q f ask ≡ v → Fine (decided m.code q i f caller ask k p v)
       fine_decided own is_here (Go found) go = by (may_step m.code q i f caller ask k p found) refl
         where
           by : (b : Bool) → may_step m.code q i f caller ask k p found ≡ b
@@ -229,7 +228,7 @@ module _ (m : Processors) (n : Mesh) (runs : Runs m n) (q : ℕ) (p : Processor)
       fine_hold (Make c vs) at by asks here = unmoves
 
       fine_so : (post : Post) → Waiting post → AsksBy m.code post f → move m.code f.thread ≡ Does line (ask_of post) g → target post ≡ Some q
-          → posted (ask_of post) ≡ Some post → (v : Verdict) → verdict (seen m.code q p1) q nobody (ask_of post) ≡ v → Fine (served_so q t post v p1 p)
+          → posted (ask_of post) ≡ Some post → (v : Verdict Address) → verdict (seen m.code q p1) q nobody (ask_of post) ≡ v → Fine (served_so q t post v p1 p)
       fine_so post at by asks here posts (Go found) go = fine_go post at by asks here posts found go
       fine_so post at by asks here posts Hold go = fine_hold post at by asks here
       fine_so post at by asks here posts (Bad kind) bad =

@@ -1,26 +1,25 @@
 -- What one processor does by itself: the thread in its hand makes a move; a message is served.
 use Rattle.std.specs.Prelude.{ℕ, zero, suc, List, [], ◌∷◌, ◌++◌, length, map, slice_get, Bool, true, false, ◌&&◌, not, nat_eq, if◌then◌else◌, Option, Some, None}
+use Rattle.std.specs.Prelude.{is_some}
 use Rattle.std.specs.Option.{option_map_or}
 use Rattle.global_ptr.specs.declared.ends.FaultKind.{FaultKind}
 use Rattle.global_ptr.specs.declared.ends.FaultKind.TheVariants.{NullPointer}
 use Rattle.cc_ops.specs.Values.{Cell, Value, Void, Int, Null, Ptr, first}
-use Rattle.cc_ops.specs.Machine.{Address}
+use Rattle.cc_ops.specs.Machine.{Address, Values}
+use Rattle.cc_ops.specs.declared.number.ThreadNo.{ThreadNo}
+use Rattle.cc_ops.specs.Shelves.{Thing, Shelf, no_shelf, changed}
 use Rattle.cc_core.specs.Core.{Shapes, function_shape}
 use Rattle.cc_core.specs.Asks.{Ask, Answer}
 use Rattle.cc_core.specs.Asks.{Reads, Writes, Copies, Makes, MakesWith, Builds, Enters, Leaves}
 use Rattle.cc_core.specs.Asks.{ForksAll, ForksOne, Spawns, Calls, Casts, NewProcessor}
 use Rattle.cc_core.specs.Asks as asks
 use Rattle.cc_core.specs.Numbers.{Post, Get, Put, Call, Cast, Make}
+use Rattle.cc_core.specs.Needs.{Verdict, Go, Hold, Bad}
+use Rattle.cc_core.specs.Effects.{is_call}
 use Rattle.cc_code.specs.Code.{Code, Thread, Then, Move, Silent, Does, Ends, Stuck, Finished, Starting, move}
-use Rattle.cc_ops.specs.declared.number.ThreadNo.{ThreadNo}
-use Rattle.cc_ops.specs.Shelves.{Thing, Shelf, no_shelf, changed}
 use Rattle.numbered_runs.specs.Machine.{Over}
 use Rattle.numbered_runs.specs.Machine as numbered
-use Rattle.cc_ops.specs.Machine.{Values}
-use Rattle.cc_core.specs.Needs.{Verdict, Go, Hold, Bad}
-use Rattle.std.specs.Prelude.{is_some}
 use Rattle.numbered_runs.specs.Effects.{Effect}
-use Rattle.cc_core.specs.Effects.{is_call}
 use Rattle.numbered_runs.specs.Posts.{posted}
 use Rattle.numbered_runs.specs.Steps.{settle}
 use Rattle.law_mesh.specs.Spots.{Fiber, Spot, Active, Gone, Mesh, runs, verdict, answered}
@@ -303,7 +302,7 @@ module _ (code : Code) (q n : ℕ) (f : Fiber) (caller : Option ThreadNo) (ask :
   may_step found =
       not (is_remote ask) && (all_on q f.inside && (ends_free code (on_here found) (settle code (runs (on_here found) None [])) && has_object p (goes_into code.shapes ask)))
 
-  abbrev pub decided : Verdict → Did Processor
+  abbrev pub decided : Verdict Address → Did Processor
   decided (Go found) = if may_step found then Went (Some (OwnStep (record { processor = q; thread = n }))) (effect_here found).prints (stepped_here found) else unmoved p
   decided Hold = silently (waits code q n f caller ask p)
   decided (Bad kind) = Failed kind (record { processor = q; thread = n })
@@ -367,7 +366,7 @@ answer t (Call f o vs) found p = make_thread (Starting f o vs) (Some t) p
 answer t (Cast f o vs) found p = send (Answers t Void) (make_thread (Starting f o vs) None p)
 answer t (Make c vs) found p = p
 
-abbrev pub served_so : (q : ℕ) → ThreadNo → Post → Verdict → (after before : Processor) → Did Processor
+abbrev pub served_so : (q : ℕ) → ThreadNo → Post → Verdict Address → (after before : Processor) → Did Processor
 served_so q t post (Go found) after before = Went (Some (ServedStep (Some q) t post)) [] (answer t post found after)
 served_so q t post Hold after before = silently (park_get t post after before)
 served_so q t post (Bad kind) after before = Failed kind t

@@ -2,9 +2,9 @@
 use Rattle.std.specs.Prelude.{ℕ, List, [], ◌∷◌, slice_get, Bool, true, false, ◌||◌, Option, Some, None}
 use Rattle.std.specs.Option.{option_and_then}
 use Rattle.cc_ops.specs.Machine.{Address}
+use Rattle.cc_ops.specs.declared.number.ThreadNo.{ThreadNo}
 use Rattle.cc_core.specs.Asks.{Ask, Joins}
 use Rattle.cc_code.specs.Code.{Move, Silent, Does, Ends, Stuck}
-use Rattle.cc_ops.specs.declared.number.ThreadNo.{ThreadNo}
 use Rattle.law_mesh.specs.Spots.{Spot, Gone, spot_of}
 
 abbrev pub is_live : Option Spot → Bool

@@ -5,14 +5,14 @@ use Rattle.global_ptr.specs.declared.ends.FaultKind.{FaultKind}
 use Rattle.cc_ops.specs.Values.{Value, Cell, Ptr}
 use Rattle.cc_ops.specs.Classes.{construct}
 use Rattle.cc_ops.specs.Machine.{Address, same_address}
+use Rattle.cc_ops.specs.declared.number.ThreadNo.{ThreadNo}
+use Rattle.cc_ops.specs.Shelves.{no_shelf, changed}
 use Rattle.cc_core.specs.Core.{class_shape}
 use Rattle.cc_core.specs.Asks.{NewProcessor}
 use Rattle.cc_core.specs.Numbers.{Post, Make}
-use Rattle.cc_code.specs.Code.{Move, Silent, Does, Ends, Stuck, move}
-use Rattle.cc_ops.specs.declared.number.ThreadNo.{ThreadNo}
-use Rattle.cc_ops.specs.Shelves.{no_shelf, changed}
 use Rattle.cc_core.specs.Needs.{Verdict, Go, Hold, Bad}
 use Rattle.cc_core.specs.Effects.{constructed}
+use Rattle.cc_code.specs.Code.{Move, Silent, Does, Ends, Stuck, move}
 use Rattle.law_mesh.specs.Spots.{Mesh, verdict, item_in}
 use Rattle.law_mesh.specs.Local.{with_new}
 use Rattle.law_mesh.specs.Queues.{Message, Asks, Answers, target}
@@ -75,7 +75,7 @@ made_for t cells rest m = record {
   output = m.output;
 }
 
-abbrev pub makes_so : ThreadNo → (class : ℕ) → List (Value Address) → (rest : List Message) → Processors → Verdict → Did Processors
+abbrev pub makes_so : ThreadNo → (class : ℕ) → List (Value Address) → (rest : List Message) → Processors → Verdict Address → Did Processors
 makes_so t c vs rest m (Go found) =
     Went (Some (ServedStep None t (Make c vs))) [] (made_for t (constructed (construct same_address (class_shape m.code.shapes c) vs)) rest m)
 makes_so t c vs rest m Hold = unmoved m

@@ -3,11 +3,11 @@ use Rattle.std.specs.Prelude.{◌≡◌, ◌⊎◌, ℕ, List, [], ◌∷◌, ma
 use Rattle.std.specs.Option.{option_map_or}
 use Rattle.cc_ops.specs.Values.{Value, Empty, Ptr}
 use Rattle.cc_ops.specs.Machine.{Address}
+use Rattle.cc_ops.specs.declared.number.ThreadNo.{ThreadNo}
+use Rattle.cc_ops.specs.Shelves.{Thing, Shelf}
 use Rattle.cc_core.specs.Core.{function_shape}
 use Rattle.cc_core.specs.Asks.{Answer, Enters}
 use Rattle.cc_code.specs.Code.{Code, Then, Does, move}
-use Rattle.cc_ops.specs.declared.number.ThreadNo.{ThreadNo}
-use Rattle.cc_ops.specs.Shelves.{Thing, Shelf}
 use Rattle.law_mesh.specs.Local.{cell_on}
 use Rattle.law_processors.specs.Living.{one_lives, joins_of}
 use Rattle.law_mesh.specs.Spots.{Fiber}

@@ -3,11 +3,11 @@ use Rattle.std.specs.Prelude.{◌≡◌, ℕ, List, [], ◌∷◌, ◌++◌, map
 use Rattle.std.specs.Option.{option_map_or}
 use Rattle.cc_ops.specs.Values.{Value}
 use Rattle.cc_ops.specs.Machine.{Address}
+use Rattle.cc_ops.specs.declared.number.ThreadNo.{ThreadNo}
+use Rattle.cc_ops.specs.Shelves.{Shelf, changed}
 use Rattle.cc_core.specs.Numbers.{Post}
 use Rattle.cc_code.specs.Code.{Code}
 use Rattle.code_names.specs.Same.{Pairwise}
-use Rattle.cc_ops.specs.declared.number.ThreadNo.{ThreadNo}
-use Rattle.cc_ops.specs.Shelves.{Shelf, changed}
 use Rattle.law_mesh.specs.Spots.{Fiber, Branches, Cell, Lock, Spot, Active, Parked, Posted, Delayed, Answered, Calling, Called, Gone, Mesh, item_in}
 use Rattle.law_mesh.specs.Queues.{Hand, Ready, OfCell, OfLock, Inbox, Outbox, Makes, Message, Asks, Item, Itself, Mail, Queues, Hold}
 

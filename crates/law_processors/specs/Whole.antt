@@ -1,6 +1,7 @@
 -- Where the machine begins, and what it stands for in the run of a program.
 use Rattle.std.specs.Prelude.{◌≡◌, ℕ, List, [], ◌∷◌, length, map, None, ℤ}
 use Rattle.std.specs.List.{AllByRecursion}
+use Rattle.cc_ops.specs.Shelves.{no_shelf}
 use Rattle.cc_core.specs.Config.{Config}
 use Rattle.cc_core.specs.Core.{Program, function}
 use Rattle.cc_core.specs.Names.{Name}
@@ -9,7 +10,6 @@ use Rattle.cc_core.specs.Steps as core
 use Rattle.cc_code.specs.Layout.{layout}
 use Rattle.numbered_runs.specs.Alike.{ints}
 use Rattle.numbered_runs.specs.Effects.{parameters}
-use Rattle.cc_ops.specs.Shelves.{no_shelf}
 use Rattle.law_mesh.specs.Begins.{first_fiber}
 use Rattle.law_mesh.specs.Local.{put_all_on}
 use Rattle.law_processors.specs.Processors.{Own, Goes, Lives, Processor, Processors, Runs}

@@ -11,6 +11,8 @@ ghost use Rattle.std.specs.Prelude.{◌≡◌, ◌<◌, ℤ, ℕ, List, [], leng
 ghost use Rattle.global_ptr.specs.declared.ends.FaultKind.{FaultKind};
 ghost use Rattle.cc_ops.specs.Values.{Ptr};
 ghost use Rattle.cc_ops.specs.Machine.{Address};
+ghost use Rattle.cc_ops.specs.declared.number.ThreadNo.{ThreadNo};
+ghost use Rattle.cc_ops.specs.Shelves.{Shelf, no_shelf, cell_in, cells_in, is_held, slots_in};
 ghost use Rattle.cc_core.specs.Names.{Name};
 ghost use Rattle.cc_core.specs.Core.{Program, function};
 ghost use Rattle.cc_core.specs.Config.{Config};
@@ -18,13 +20,10 @@ ghost use Rattle.cc_core.specs.Source.{IsProgram};
 ghost use Rattle.cc_core.specs.Steps as core;
 ghost use Rattle.cc_core.specs.Numbers.{Numbers, first_numbers};
 ghost use Rattle.cc_code.specs.Code.{Code};
-ghost use Rattle.cc_ops.specs.declared.number.ThreadNo.{ThreadNo};
-ghost use Rattle.cc_ops.specs.Shelves.{Shelf, no_shelf, cell_in, cells_in, is_held, slots_in};
-ghost use Rattle.numbered_runs.specs.Machine.{made_in};
 ghost use Rattle.numbered_runs.specs.Stands.{IsThread};
 ghost use Rattle.core_types.specs.Types.{Types};
 ghost use Rattle.core_types.specs.Programs.{HasTypes};
-ghost use Rattle.law_mesh.specs.Spots.{counted, is_gone, Mesh, item_in};
+ghost use Rattle.law_mesh.specs.Spots.{made_of, is_gone, Mesh, item_in};
 ghost use Rattle.law_mesh.specs.Moves.{FaultsAt};
 ghost use Rattle.law_mesh.specs.Local.{cell_on};
 ghost use Rattle.law_processors.specs.Processors.{Entry, Processor, Processors, tables_of, Runs};
@@ -68,7 +67,7 @@ pub fn one_processor_is_seen()
     ensures held { (q : ℕ) (s : Shelf) (a : Address) → a.processor ≡ q → (x : ℕ)
         → is_held (alone_at q no_shelf s) (Ptr a x) ≡ held_on s a.object }
     ensures slots { (q : ℕ) (s : Shelf) → slots_in (alone_at q no_shelf s) q ≡ s.slots }
-    ensures threads { (q : ℕ) (es : List Entry) → made_in (counted (alone_at q [] (map seen_entry es))) q ≡ length es }
+    ensures threads { (q : ℕ) (es : List Entry) → made_of (alone_at q [] (map seen_entry es)) q ≡ length es }
     ensures ended { (q : ℕ) (es : List Entry) (t : ThreadNo) → t.processor ≡ q
         → is_gone (item_in (alone_at q [] (map seen_entry es)) t) ≡ has_ended_on (slice_get es t.thread) }
 {}

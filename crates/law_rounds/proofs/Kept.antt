@@ -1,12 +1,11 @@
 -- What the pieces of a step leave as it is.
 use Rattle.std.proofs.Common.{◌≡◌, ℕ, zero, suc, List, [], ◌∷◌, Bool, true, false, Option, Some, None, refl, ◌∙◌}
 use Rattle.cc_ops.specs.Values.{Value, Void, Int, Null, Ptr}
-use Rattle.cc_ops.specs.Machine.{Address}
+use Rattle.cc_ops.specs.Machine.{Address, Values}
+use Rattle.cc_ops.specs.declared.number.ThreadNo.{ThreadNo}
 use Rattle.cc_core.specs.Core.{Shapes}
 use Rattle.cc_core.specs.Asks.{Ask, Answer, Leaves}
 use Rattle.cc_code.specs.Code.{Code, Thread, Then}
-use Rattle.cc_ops.specs.declared.number.ThreadNo.{ThreadNo}
-use Rattle.cc_ops.specs.Machine.{Values}
 use Rattle.law_mesh.specs.Local.{place_after, new_here}
 use Rattle.law_mesh.specs.Spots.{Fiber}
 use Rattle.law_mesh.specs.Queues.{Message, holds}

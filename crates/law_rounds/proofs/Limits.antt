@@ -7,7 +7,7 @@ use Rattle.global_ptr.specs.declared.ends.FaultKind.{FaultKind}
 use Rattle.global_ptr.specs.declared.ends.Standing.{Standing}
 use Rattle.cc_ops.specs.Values.{Cell, Result, Gives, Fails}
 use Rattle.cc_ops.specs.Classes.{construct}
-use Rattle.cc_ops.specs.Machine.{Address, same_address}
+use Rattle.cc_ops.specs.Machine.{Address, same_address, Values}
 use Rattle.cc_core.specs.Asks.{NewProcessor}
 use Rattle.cc_core.specs.Config.{Config}
 use Rattle.cc_core.specs.Core.{Program, class_shape}
@@ -15,10 +15,9 @@ use Rattle.cc_core.specs.Names.{Name}
 use Rattle.cc_core.specs.Numbers.{Post, Get, Put, Call, Cast, Make, Numbers, first_numbers}
 use Rattle.cc_core.specs.Source.{IsProgram}
 use Rattle.cc_core.specs.Steps as core
+use Rattle.cc_core.specs.Needs.{Verdict, Go, Hold, Bad, and_also, of_result}
 use Rattle.cc_ops.specs.declared.number.ThreadNo.{ThreadNo}
 use Rattle.numbered_runs.proofs.Lists.{get_changed}
-use Rattle.cc_ops.specs.Machine.{Values}
-use Rattle.cc_core.specs.Needs.{Verdict, Go, Hold, Bad, and_also, of_result}
 use Rattle.law_mesh.specs.Spots.{Mesh, verdict}
 use Rattle.law_mesh.specs.Queues.{OfCell, Makes, Message, Asks, Answers, Mail, target}
 use Rattle.law_processors.specs.Processors.{Processor, Processors, Runs, lists, printing, with_processor}
@@ -118,7 +117,7 @@ module _ (m : Processors) (n : Mesh) (runs : Runs m n) where
   make_goes : (t : ThreadNo) (c : ℕ) (vs : Values) (rest : List Message) → m.makes ≡ Asks t (Make c vs) ∷ rest → CanGo m
   make_goes t c vs rest e = by (verdict (seen_by_makes m) 0 nobody (NewProcessor c vs)) refl
     where
-      by : (v : Verdict) → verdict (seen_by_makes m) 0 nobody (NewProcessor c vs) ≡ v → CanGo m
+      by : (v : Verdict Address) → verdict (seen_by_makes m) 0 nobody (NewProcessor c vs) ≡ v → CanGo m
       by (Go found) d =
           let so : made m ≡ makes_so t c vs rest m (Go found) = ap (λ ms. makes_first ms m) e ∙ ap (makes_so t c vs rest m) d in
           ByStep _ [] _ (machine.Then Stays (machine.Makes (Asks t (Make c vs)) rest (Some (ServedStep None t (Make c vs))) [] _ e so))

@@ -5,15 +5,15 @@ use Rattle.std.proofs.lemmas.Option.{none-some, same_Some}
 use Rattle.global_ptr.specs.declared.ends.FaultKind.TheVariants.{NullPointer}
 use Rattle.rand_xoshiro.specs.SplitMix64.{mix_u64}
 use Rattle.cc_ops.specs.Values.{Value, Void, Int, Null, Ptr}
-use Rattle.cc_ops.specs.Machine.{Address}
+use Rattle.cc_ops.specs.Machine.{Address, Values}
+use Rattle.cc_ops.specs.declared.number.ThreadNo.{ThreadNo}
+use Rattle.cc_ops.specs.Shelves.{changed}
 use Rattle.cc_core.specs.Core.{Shapes}
 use Rattle.cc_core.specs.Asks.{Ask, Answer, Reads, Enters, Leaves}
 use Rattle.cc_core.specs.Asks as asks
 use Rattle.cc_core.specs.Numbers.{Post, Get, Put, Call, Cast, Make}
-use Rattle.cc_code.specs.Code.{Code, Thread, Then, Move, Silent, Does, Ends, Stuck, move}
-use Rattle.cc_ops.specs.declared.number.ThreadNo.{ThreadNo}
-use Rattle.cc_ops.specs.Machine.{Values}
 use Rattle.cc_core.specs.Needs.{Verdict, Go, Hold, Bad}
+use Rattle.cc_code.specs.Code.{Code, Thread, Then, Move, Silent, Does, Ends, Stuck, move}
 use Rattle.numbered_runs.specs.Posts.{posted}
 use Rattle.law_mesh.specs.Local.{write_on, place_after, new_here}
 use Rattle.law_processors.specs.Living.{one_lives, joins_of}
@@ -24,7 +24,6 @@ use Rattle.law_processors.specs.Alone.{OwnStep, Did, Went, Failed, be_ready, ser
 use Rattle.law_processors.specs.Machine.{without_ready, Run}
 use Rattle.law_rounds.specs.Turn.{Note, begin, TurnIs, TurnRuns, EndsSo, TurnEnd, Quota, Idle, Fault, Phase, Serving, Picking, Running, Leaving, Closed, Turning, Pick, pick, at_phase, end_of, closes}
 use Rattle.law_rounds.specs.Turn.{after_serving, serves_on, takes, with_state, picks, stays, after_move, runs_on, ends_soon, ended_or_not, after_end, put_back, leaves, tick_in, tick, ticks}
-use Rattle.cc_ops.specs.Shelves.{changed}
 use Rattle.law_mesh.proofs.Local.{changed_alike, changed_same}
 use Rattle.law_processors.proofs.Base.{append_none}
 use Rattle.law_rounds.proofs.Kept.{Same, wake_same, stepped_same}
@@ -87,7 +86,7 @@ module _ (code : Code) (q n : ℕ) (f : Fiber) (caller : Option ThreadNo) (ask :
   stepped_inbox : (found : Values) → (stepped_here code q n f caller ask k p found).inbox ≡ p.inbox
   stepped_inbox found = stepped_same (λ r. r.inbox) same_inbox code q n f caller ask k p found
 
-  decided_inbox : (v : Verdict) → Same (λ r. r.inbox) p (decided code q n f caller ask k p v)
+  decided_inbox : (v : Verdict Address) → Same (λ r. r.inbox) p (decided code q n f caller ask k p v)
   decided_inbox (Go found) = by (may_step code q n f caller ask k p found)
     where
       by : (b : Bool) → Same (λ r. r.inbox) p (if b then Went (Some (OwnStep (record { processor = q; thread = n }))) (effect_here code q n f caller ask k p found).prints (stepped_here code q n f caller ask k p found) else Went None [] p)
@@ -154,7 +153,7 @@ park_inbox t (Call f o vs) after before e = refl
 park_inbox t (Cast f o vs) after before e = refl
 park_inbox t (Make c vs) after before e = refl
 
-served_so_inbox : (q : ℕ) (t : ThreadNo) (post : Post) (v : Verdict) (after before : Processor) → after.inbox ≡ before.inbox → Same (λ p. p.inbox) before (served_so q t post v after before)
+served_so_inbox : (q : ℕ) (t : ThreadNo) (post : Post) (v : Verdict Address) (after before : Processor) → after.inbox ≡ before.inbox → Same (λ p. p.inbox) before (served_so q t post v after before)
 served_so_inbox q t post (Go found) after before e = answer_inbox t post found after ∙ e
 served_so_inbox q t post Hold after before e = park_inbox t post after before e
 served_so_inbox q t post (Bad kind) after before e = tt

@@ -228,7 +228,7 @@ abbrev pub FreeMade : Did Processors → Type 0
 FreeMade (Went step prints m') = AllFree m'.all
 FreeMade (Failed kind t) = Unit {0}
 
-makes_so_free : (m : Processors) → AllFree m.all → (t : ThreadNo) (c : ℕ) (vs : List (Value Address)) (rest : List Message) (v : Verdict) → FreeMade (makes_so t c vs rest m v)
+makes_so_free : (m : Processors) → AllFree m.all → (t : ThreadNo) (c : ℕ) (vs : List (Value Address)) (rest : List Message) (v : Verdict Address) → FreeMade (makes_so t c vs rest m v)
 makes_so_free m free t c vs rest (Go found) =
     let cells = constructed (construct same_address (class_shape m.code.shapes c) vs) in
     let more = free_more m.all (new_processor cells) refl free in
@@ -251,7 +251,7 @@ IsNoted ls (Went None prints m) = Unit {0}
 IsNoted ls (Went (Some l) prints m) = ls ≡ l ∷ []
 IsNoted ls (Failed kind t) = Unit {0}
 
-so_noted : (m : Processors) (t : ThreadNo) (c : ℕ) (vs : List (Value Address)) (rest : List Message) (v : Verdict)
+so_noted : (m : Processors) (t : ThreadNo) (c : ℕ) (vs : List (Value Address)) (rest : List Message) (v : Verdict Address)
     → IsNoted (ServedStep None t (Make c vs) ∷ []) (makes_so t c vs rest m v)
 so_noted m t c vs rest (Go found) = refl
 so_noted m t c vs rest Hold = tt

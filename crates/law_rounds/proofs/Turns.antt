@@ -4,13 +4,12 @@ use Rattle.std.specs.Prelude.{slice_get}
 use Rattle.std.proofs.lemmas.Option.{none-some, same_Some}
 use Rattle.global_ptr.specs.declared.ends.FaultKind.{FaultKind}
 use Rattle.cc_ops.specs.Values.{Value, Void, Int, Null, Ptr}
-use Rattle.cc_ops.specs.Machine.{Address}
-use Rattle.cc_core.specs.Numbers.{Post, Get, Put, Call, Cast, Make}
-use Rattle.cc_code.specs.Code.{Code}
+use Rattle.cc_ops.specs.Machine.{Address, Values}
 use Rattle.cc_ops.specs.declared.number.ThreadNo.{ThreadNo}
 use Rattle.cc_ops.specs.Shelves.{changed}
-use Rattle.cc_ops.specs.Machine.{Values}
+use Rattle.cc_core.specs.Numbers.{Post, Get, Put, Call, Cast, Make}
 use Rattle.cc_core.specs.Needs.{Verdict, Go, Hold, Bad}
+use Rattle.cc_code.specs.Code.{Code}
 use Rattle.numbered_runs.proofs.Lists.{get_changed}
 use Rattle.law_mesh.specs.Local.{write_on}
 use Rattle.law_mesh.specs.Spots.{verdict}
@@ -47,7 +46,7 @@ park_hand t (Call f o vs) after before e = refl
 park_hand t (Cast f o vs) after before e = refl
 park_hand t (Make c vs) after before e = refl
 
-served_so_hand : (q : ℕ) (t : ThreadNo) (post : Post) (v : Verdict) (after before : Processor) → after.hand ≡ before.hand → Same (λ p. p.hand) before (served_so q t post v after before)
+served_so_hand : (q : ℕ) (t : ThreadNo) (post : Post) (v : Verdict Address) (after before : Processor) → after.hand ≡ before.hand → Same (λ p. p.hand) before (served_so q t post v after before)
 served_so_hand q t post (Go found) after before e = answer_hand t post found after ∙ e
 served_so_hand q t post Hold after before e = park_hand t post after before e
 served_so_hand q t post (Bad kind) after before e = tt
@@ -75,7 +74,7 @@ IsNoted ls (Went None prints p) = Unit {0}
 IsNoted ls (Went (Some l) prints p) = ls ≡ l ∷ []
 IsNoted ls (Failed kind t) = Unit {0}
 
-so_noted : (q : ℕ) (t : ThreadNo) (post : Post) (v : Verdict) (after before : Processor) → IsNoted (labels_in (Served q (Asks t post))) (served_so q t post v after before)
+so_noted : (q : ℕ) (t : ThreadNo) (post : Post) (v : Verdict Address) (after before : Processor) → IsNoted (labels_in (Served q (Asks t post))) (served_so q t post v after before)
 so_noted q t post (Go found) after before = refl
 so_noted q t post Hold after before = tt
 so_noted q t post (Bad kind) after before = tt

@@ -8,6 +8,7 @@ use Rattle.global_ptr.specs.declared.ends.Standing.{Standing}
 use Rattle.global_ptr.specs.declared.ends.Standing.TheVariants as standing
 use Rattle.rand_xoshiro.specs.SplitMix64.{mix_u64}
 use Rattle.cc_ops.specs.Values.{Int}
+use Rattle.cc_ops.specs.declared.number.ThreadNo.{ThreadNo}
 use Rattle.cc_core.specs.Core.{Program}
 use Rattle.cc_core.specs.Config.{Config}
 use Rattle.cc_core.specs.Names.{Name}
@@ -15,7 +16,6 @@ use Rattle.cc_core.specs.Numbers.{Numbers, first_numbers}
 use Rattle.cc_core.specs.Steps as core
 use Rattle.cc_core.specs.Steps.{RunsTo}
 use Rattle.numbered_runs.specs.Alike.{main_thread}
-use Rattle.cc_ops.specs.declared.number.ThreadNo.{ThreadNo}
 use Rattle.numbered_runs.specs.Stands.{IsThread}
 use Rattle.law_mesh.specs.Source.{Leads}
 use Rattle.law_mesh.specs.Spots.{item_in}

@@ -2,9 +2,9 @@
 -- defined by ticks, each of which makes one move. And its silent moves alone.
 use Rattle.std.specs.Prelude.{◌≡◌, ◌≤◌, ℕ, zero, suc, ◌+◌, ◌/◌, ◌%◌, ◌^◌, List, [], ◌∷◌, ◌++◌, length, take, drop, replicate, slice_get, Bool, true, false, Option, Some, None}
 use Rattle.global_ptr.specs.declared.ends.FaultKind.{FaultKind}
+use Rattle.cc_ops.specs.declared.number.ThreadNo.{ThreadNo}
 use Rattle.rand_xoshiro.specs.SplitMix64.{mix_u64}
 use Rattle.cc_code.specs.Code.{Code}
-use Rattle.cc_ops.specs.declared.number.ThreadNo.{ThreadNo}
 use Rattle.numbered_runs.specs.Machine.{Over}
 use Rattle.numbered_runs.specs.Machine as numbered
 use Rattle.numbered_runs.specs.Steps.{settle}

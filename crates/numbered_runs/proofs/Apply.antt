@@ -3,17 +3,19 @@ use Rattle.std.proofs.Common.{◌≡◌, ◌⊎◌, inl, inr, ⊎_elim, ℕ, zer
 use Rattle.std.specs.Prelude.{if◌then◌else◌}
 use Rattle.std.specs.FinMap as fin
 use Rattle.cc_ops.specs.Values.{Ptr}
-use Rattle.cc_ops.specs.Machine.{Address}
+use Rattle.cc_ops.specs.Machine.{Address, Values}
+use Rattle.cc_ops.specs.declared.number.ThreadNo.{ThreadNo}
+use Rattle.cc_ops.specs.Shelves.{Shelf}
 use Rattle.cc_core.specs.Names.{Name, Value}
 use Rattle.cc_core.specs.Core.{Program, Term, shapes}
 use Rattle.cc_core.specs.Asks.{Ask, Answer}
 use Rattle.cc_core.specs.Config as config
 use Rattle.cc_core.specs.Config.{Config, State, Live}
 use Rattle.cc_core.specs.Effects as core
-use Rattle.cc_core.specs.Effects.{numbers, first_objects}
+use Rattle.cc_core.specs.Effects.{numbers, first_objects, is_call, branch_count}
 use Rattle.cc_core.specs.Laws.{NamesAreFree}
 use Rattle.cc_core.specs.Needs as needs
-use Rattle.cc_core.specs.Needs.{any_holds}
+use Rattle.cc_core.specs.Needs.{any_holds, Go}
 use Rattle.cc_core.specs.Next.{Next, Asks, After, next}
 use Rattle.cc_core.specs.Numbers.{Numbers, numbers_after, after_change, changes, of_next, of_verdict, new_processors, numbers_step}
 use Rattle.cc_core.specs.Steps as steps
@@ -35,15 +37,10 @@ use Rattle.run_numbers.proofs.Processors.{one_number, processors_are_counted}
 use Rattle.one_holder.specs.Holders.{HasOneHolder, IsInsideOnce}
 use Rattle.one_holder.proofs.Law.{one_holder, once}
 use Rattle.one_holder.proofs.Moves.{inside_after}
-use Rattle.cc_ops.specs.declared.number.ThreadNo.{ThreadNo}
 use Rattle.numbered_runs.specs.Machine.{Machine, Runner, made_in}
-use Rattle.cc_ops.specs.Shelves.{Shelf}
-use Rattle.numbered_runs.specs.Needs as machine
-use Rattle.cc_ops.specs.Machine.{Values}
-use Rattle.cc_core.specs.Needs.{Go}
+use Rattle.numbered_runs.specs.Looks as machine
 use Rattle.numbered_runs.specs.Looks.{check_all}
 use Rattle.numbered_runs.specs.Effects.{Effect, held_after, put_things}
-use Rattle.cc_core.specs.Effects.{is_call, branch_count}
 use Rattle.numbered_runs.specs.Stands.{Stands, IsThread, is_object, Alike, SameLive, SameState, IsThreadAt}
 use Rattle.numbered_runs.specs.Steps.{its_effect, ground, its_answer, follows, its_new, new_home, tables, new_numbers, itself, apply, numbers_on}
 use Rattle.numbered_runs.proofs.Asks.{CallsWithin, SameEffect, effect_alike}

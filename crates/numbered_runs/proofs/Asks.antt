@@ -6,8 +6,9 @@ use Rattle.std.specs.FinMap as fin
 use Rattle.cc_ops.specs.Values as values
 use Rattle.cc_ops.specs.Values.{Void, Int, Null, Ptr, Plain, Result, Gives, Fails, fresh, first, after_first, int_of}
 use Rattle.cc_ops.specs.Classes.{construct}
-use Rattle.cc_ops.specs.Machine.{Address, same_address}
+use Rattle.cc_ops.specs.Machine.{Address, same_address, Values}
 use Rattle.cc_ops.specs.declared.kind.Kind.{Kind}
+use Rattle.cc_ops.specs.declared.number.ThreadNo.{ThreadNo}
 use Rattle.cc_core.specs.Names.{Name, same_name, Value, Cell}
 use Rattle.cc_core.specs.Core.{Program, PrintPart, Number, Text, Endl, shapes, function_shape, class_shape}
 use Rattle.cc_core.specs.Asks.{Ask, Reads, Writes, Copies, Indexes, Shifts, Computes, Tests, Makes, MakesWith, Builds, Enters, Leaves}
@@ -15,6 +16,7 @@ use Rattle.cc_core.specs.Asks.{ForksAll, ForksOne, Joins, Spawns, Prints, Calls,
 use Rattle.cc_core.specs.Config as config
 use Rattle.cc_core.specs.Config.{Config, Live, Object}
 use Rattle.cc_core.specs.Effects as core
+use Rattle.cc_core.specs.Effects.{cells_with, constructed, printed, left_behind}
 use Rattle.cc_core.specs.Laws.{NamesAreFree}
 use Rattle.cc_core.specs.Numbers.{Numbers, new_processors}
 use Rattle.cc_core.proofs.Fresh.{free_reached}
@@ -27,11 +29,8 @@ use Rattle.numbered_threads.proofs.Numbered.{started_stands}
 use Rattle.run_numbers.proofs.Numbers.{reached}
 use Rattle.cc_core.proofs.NameLaws.{told_same, told_itself}
 use Rattle.run_numbers.proofs.Processors.{object_founds}
-use Rattle.cc_ops.specs.declared.number.ThreadNo.{ThreadNo}
 use Rattle.numbered_runs.specs.Machine.{Machine, Runner}
-use Rattle.cc_ops.specs.Machine.{Values}
 use Rattle.numbered_runs.specs.Effects.{Effect, effect, nothing, object, start, parameters}
-use Rattle.cc_core.specs.Effects.{cells_with, constructed, printed, left_behind}
 use Rattle.numbered_runs.specs.Stands.{Stands, IsThread, is_object, Alike, SameCell, SameInside}
 use Rattle.numbered_runs.proofs.Lists.{get_in_front, get_last, pairwise_length}
 use Rattle.numbered_runs.proofs.Naming.{same_objects, home}

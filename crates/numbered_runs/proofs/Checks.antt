@@ -2,7 +2,7 @@
 use Rattle.std.proofs.Common.{◌≡◌, ⊎_elim, ℕ, ◌+◌, ◌<◌, ◌≤◌, List, [], ◌∷◌, length, map, Bool, true, false, ◌&&◌, ◌||◌, Option, Some, None, refl, sym, ap, ◌∙◌, subst, arith}
 use Rattle.std.proofs.lemmas.Bool.{and_right, or_from}
 use Rattle.std.proofs.lemmas.Option.{slice_get_cases}
-use Rattle.std.specs.Prelude.{slice_get, get_or, nat_le, nat_lt, if◌then◌else◌}
+use Rattle.std.specs.Prelude.{slice_get, get_or, nat_le, nat_lt, if◌then◌else◌, is_some}
 use Rattle.std.specs.Option.{option_and_then, option_map_or}
 use Rattle.std.specs.FinMap as fin
 use Rattle.global_ptr.specs.declared.ends.FaultKind.{FaultKind}
@@ -12,6 +12,8 @@ use Rattle.cc_ops.specs.Operators.{compute}
 use Rattle.cc_ops.specs.Addresses.{indexed, shifted}
 use Rattle.cc_ops.specs.Classes.{construct, arity, size}
 use Rattle.cc_ops.specs.Machine.{Address, same_address}
+use Rattle.cc_ops.specs.declared.number.ThreadNo.{ThreadNo}
+use Rattle.cc_ops.specs.Shelves.{Thing, cell_in, cells_in, is_held, slots_in, home_in}
 use Rattle.cc_core.specs.Names.{Name, same_name, count}
 use Rattle.cc_core.specs.Core.{Program, Shapes, shapes, function_shape, class_shape}
 use Rattle.cc_core.specs.Asks.{Ask, Reads, Writes, Copies, Indexes, Shifts, Computes, Tests, Makes, MakesWith, Builds, Enters, Leaves}
@@ -19,6 +21,9 @@ use Rattle.cc_core.specs.Asks.{ForksAll, ForksOne, Joins, Spawns, Prints, Calls,
 use Rattle.cc_core.specs.Config as config
 use Rattle.cc_core.specs.Config.{Config, Thread, State, Live, Ended}
 use Rattle.cc_core.specs.Needs as core
+use Rattle.cc_core.specs.Needs.{Need, Known, Filled, Unfilled, AllCells, Object, Free, Done, Deeper, Threads, ThreadAt, Slots, FirstSlots, Processor, Constructs}
+use Rattle.cc_core.specs.Needs.{Verdict, Go, Hold, Bad, one, of_result, at_object, read, writable, value_in, all_in, object_there, room, and_also, all_of}
+use Rattle.cc_core.specs.Needs.{most_processors, most_threads, most_slots, most_calls}
 use Rattle.cc_core.specs.Numbers.{Numbers, listed}
 use Rattle.cc_core.proofs.Fresh.{free_reached}
 use Rattle.cc_code.specs.Code.{Code}
@@ -26,13 +31,8 @@ use Rattle.code_names.specs.Same.{Pairwise, Told, SameValues, SameAsk}
 use Rattle.code_names.proofs.Values.{int_same}
 use Rattle.run_numbers.proofs.Numbers.{reached}
 use Rattle.run_numbers.proofs.Counts.{threads_are_counted}
-use Rattle.cc_ops.specs.declared.number.ThreadNo.{ThreadNo}
 use Rattle.numbered_runs.specs.Machine.{Machine, Runner, Progress, Goes, Over, thread_in, made_in, ended_with}
-use Rattle.cc_ops.specs.Shelves.{Thing, cell_in, cells_in, is_held, slots_in, home_in}
-use Rattle.cc_core.specs.Needs.{Need, Known, Filled, Unfilled, AllCells, Object, Free, Done, Deeper, Threads, ThreadAt, Slots, FirstSlots, Processor, Constructs}
-use Rattle.cc_core.specs.Needs.{Verdict, Go, Hold, Bad, one, of_result, at_object, read, writable, value_in, all_in, object_there, room, and_also}
 use Rattle.numbered_runs.specs.Looks.{needs, has_ended, all_ended, check, check_all}
-use Rattle.std.specs.Prelude.{is_some}
 use Rattle.numbered_runs.specs.Stands.{Stands, is_object, IsThread, Alike, SameCell, SameLive, SameState, SameInside, IsThreadAt, IsThingAt, IsShelf}
 use Rattle.numbered_runs.proofs.Lists.{pairwise_length, pairwise_append, SameOption, same_option}
 use Rattle.numbered_runs.proofs.Naming.{same_objects, table_at, shelf_at, thread_at, thing_at, home, pointer_home}
@@ -44,23 +44,23 @@ module _ (n : Numbers) where
 
   -- ---- verdicts
 
-  abbrev pub SameVerdict : Verdict → core.Verdict → Type 0
-  SameVerdict (Go vs) (core.Go us) = AllAlike vs us
-  SameVerdict Hold core.Hold = Unit {0}
-  SameVerdict (Bad kind) (core.Bad other) = kind ≡ other
+  abbrev pub SameVerdict : Verdict Address → Verdict Name → Type 0
+  SameVerdict (Go vs) (Go us) = AllAlike vs us
+  SameVerdict Hold Hold = Unit {0}
+  SameVerdict (Bad kind) (Bad other) = kind ≡ other
   SameVerdict v u = ⊥
 
-  and_also_same : (v : Verdict) (u : core.Verdict) (v' : Verdict) (u' : core.Verdict) → SameVerdict v u → SameVerdict v' u'
-      → SameVerdict (and_also v v') (core.and_also u u')
-  and_also_same (Go vs) (core.Go us) (Go vs') (core.Go us') h g = pairwise_append (Alike n) vs vs' us us' h g
-  and_also_same (Go vs) (core.Go us) Hold core.Hold h g = tt
-  and_also_same (Go vs) (core.Go us) (Bad kind) (core.Bad other) h g = g
-  and_also_same (Go vs) (core.Go us) v' u' h g = absurd g
-  and_also_same Hold core.Hold v' u' h g = tt
-  and_also_same (Bad kind) (core.Bad other) v' u' h g = h
+  and_also_same : (v : Verdict Address) (u : Verdict Name) (v' : Verdict Address) (u' : Verdict Name) → SameVerdict v u → SameVerdict v' u'
+      → SameVerdict (and_also v v') (and_also u u')
+  and_also_same (Go vs) (Go us) (Go vs') (Go us') h g = pairwise_append (Alike n) vs vs' us us' h g
+  and_also_same (Go vs) (Go us) Hold Hold h g = tt
+  and_also_same (Go vs) (Go us) (Bad kind) (Bad other) h g = g
+  and_also_same (Go vs) (Go us) v' u' h g = absurd g
+  and_also_same Hold Hold v' u' h g = tt
+  and_also_same (Bad kind) (Bad other) v' u' h g = h
   and_also_same v u v' u' h g = absurd h
 
-  if_same : (b c : Bool) (v v' : Verdict) (u u' : core.Verdict) → b ≡ c → SameVerdict v u → SameVerdict v' u'
+  if_same : (b c : Bool) (v v' : Verdict Address) (u u' : Verdict Name) → b ≡ c → SameVerdict v u → SameVerdict v' u'
       → SameVerdict (if b then v else v') (if c then u else u')
   if_same b c v v' u u' e h g = subst (λ d. SameVerdict (if b then v else v') (if d then u else u')) e (either b)
     where
@@ -68,58 +68,58 @@ module _ (n : Numbers) where
       either true = h
       either false = g
 
-  room_same : (made also k j most : ℕ) (kind : FaultKind) → made ≡ also → k ≡ j → SameVerdict (room made k most kind) (core.room also j most kind)
-  room_same made also k j most kind e f = if_same _ _ (Go []) (Bad kind) (core.Go []) (core.Bad kind)
+  room_same : (made also k j most : ℕ) (kind : FaultKind) → made ≡ also → k ≡ j → SameVerdict (room made k most kind) (room also j most kind)
+  room_same made also k j most kind e f = if_same _ _ (Go []) (Bad kind) (Go []) (Bad kind)
       (ap (λ i. nat_le (i + k) most) e ∙ ap (λ i. nat_le (also + i) most) f) tt refl
 
   of_result_same : {A B : Type 0} → (S : A → B → Type 0) (r : Result A) (q : Result B) (f : A → List (Value Address)) (g : B → List (Value Name))
-      → SameResult S r q → ((a : A) (b : B) → S a b → AllAlike (f a) (g b)) → SameVerdict (of_result r f) (core.of_result q g)
+      → SameResult S r q → ((a : A) (b : B) → S a b → AllAlike (f a) (g b)) → SameVerdict (of_result r f) (of_result q g)
   of_result_same S (Gives a) (Gives b) f g h each = each a b h
   of_result_same S (Fails kind) (Fails other) f g h each = h
   of_result_same S r q f g h each = absurd h
 
   -- ---- cells
 
-  read_same : (c : Option (Cell Address)) (d : Option (Cell Name)) → SameOption (SameCell n) c d → SameVerdict (read c) (core.read d)
+  read_same : (c : Option (Cell Address)) (d : Option (Cell Name)) → SameOption (SameCell n) c d → SameVerdict (read c) (read d)
   read_same None None h = refl
   read_same (Some (Plain v)) (Some (Plain u)) h = (h, tt)
   read_same (Some Empty) (Some Empty) h = tt
   read_same (Some (Full v)) (Some (Full u)) h = (h, tt)
   read_same c d h = absurd h
 
-  writable_same : (c : Option (Cell Address)) (d : Option (Cell Name)) → SameOption (SameCell n) c d → SameVerdict (writable c) (core.writable d)
+  writable_same : (c : Option (Cell Address)) (d : Option (Cell Name)) → SameOption (SameCell n) c d → SameVerdict (writable c) (writable d)
   writable_same None None h = refl
   writable_same (Some (Plain v)) (Some (Plain u)) h = tt
   writable_same (Some Empty) (Some Empty) h = tt
   writable_same (Some (Full v)) (Some (Full u)) h = refl
   writable_same c d h = absurd h
 
-  value_in_same : (c : Cell Address) (d : Cell Name) → SameCell n c d → Alike n (value_in c) (core.value_in d)
+  value_in_same : (c : Cell Address) (d : Cell Name) → SameCell n c d → Alike n (value_in c) (value_in d)
   value_in_same (Plain v) (Plain u) h = h
   value_in_same Empty Empty h = tt
   value_in_same (Full v) (Full u) h = h
   value_in_same c d h = absurd h
 
-  values_in_same : (cs : List (Cell Address)) (ds : List (Cell Name)) → SameCells n cs ds → AllAlike (map value_in cs) (map core.value_in ds)
+  values_in_same : (cs : List (Cell Address)) (ds : List (Cell Name)) → SameCells n cs ds → AllAlike (map value_in cs) (map value_in ds)
   values_in_same [] [] h = tt
   values_in_same [] (d ∷ ds) h = absurd h
   values_in_same (c ∷ cs) [] h = absurd h
   values_in_same (c ∷ cs) (d ∷ ds) h = (value_in_same c d h.0, values_in_same cs ds h.1)
 
-  all_in_same : (k j : ℕ) (cs : List (Cell Address)) (ds : List (Cell Name)) → k ≡ j → SameCells n cs ds → SameVerdict (all_in k cs) (core.all_in j ds)
+  all_in_same : (k j : ℕ) (cs : List (Cell Address)) (ds : List (Cell Name)) → k ≡ j → SameCells n cs ds → SameVerdict (all_in k cs) (all_in j ds)
   all_in_same k j cs ds e h = if_same _ _ _ _ _ _
       (ap (λ i. nat_lt i k) (pairwise_length (SameCell n) cs ds h) ∙ ap (nat_lt (length ds)) e) refl (values_in_same cs ds h)
 
-  pointed_same : (v : Value Address) (u : Value Name) (f : Address → ℕ → Verdict) (g : Name → ℕ → core.Verdict) → Alike n v u
+  pointed_same : (v : Value Address) (u : Value Name) (f : Address → ℕ → Verdict Address) (g : Name → ℕ → Verdict Name) → Alike n v u
       → ((a : Address) (o : Name) (i j : ℕ) → Told (is_object n) a o → i ≡ j → SameVerdict (f a i) (g o j))
-      → SameVerdict (at_object v (Bad NullPointer) f) (core.at_object u (core.Bad NullPointer) g)
+      → SameVerdict (at_object v (Bad NullPointer) f) (at_object u (Bad NullPointer) g)
   pointed_same Void Void f g h each = refl
   pointed_same (Int i) (Int j) f g h each = refl
   pointed_same Null Null f g h each = refl
   pointed_same (Ptr a i) (Ptr o j) f g h each = each a o i j h.0 h.1
   pointed_same v u f g h each = absurd h
 
-  object_there_same : (v : Value Address) (u : Value Name) → Alike n v u → SameVerdict (object_there v) (core.object_there u)
+  object_there_same : (v : Value Address) (u : Value Name) → Alike n v u → SameVerdict (object_there v) (object_there u)
   object_there_same Void Void h = tt
   object_there_same (Int i) (Int j) h = refl
   object_there_same Null Null h = refl
@@ -128,24 +128,24 @@ module _ (n : Numbers) where
 
   -- ---- needs
 
-  abbrev pub SameNeed : Need → core.Need → Type 0
-  SameNeed (Known r) (core.Known q) = SameResult AllAlike r q
-  SameNeed (Filled v) (core.Filled u) = Alike n v u
-  SameNeed (Unfilled v) (core.Unfilled u) = Alike n v u
-  SameNeed (AllCells v k) (core.AllCells u j) = Alike n v u × (k ≡ j)
-  SameNeed (Object v) (core.Object u) = Alike n v u
-  SameNeed (Free f v) (core.Free g u) = (f ≡ g) × Alike n v u
-  SameNeed (Done made) (core.Done also) = made ≡ also
-  SameNeed Deeper core.Deeper = Unit {0}
-  SameNeed (Threads k) (core.Threads j) = k ≡ j
-  SameNeed (ThreadAt v) (core.ThreadAt u) = Alike n v u
-  SameNeed (Slots k) (core.Slots j) = k ≡ j
-  SameNeed (FirstSlots k) (core.FirstSlots j) = k ≡ j
-  SameNeed Processor core.Processor = Unit {0}
-  SameNeed (Constructs c vs) (core.Constructs d us) = (c ≡ d) × AllAlike vs us
+  abbrev pub SameNeed : Need Address → Need Name → Type 0
+  SameNeed (Known r) (Known q) = SameResult AllAlike r q
+  SameNeed (Filled v) (Filled u) = Alike n v u
+  SameNeed (Unfilled v) (Unfilled u) = Alike n v u
+  SameNeed (AllCells v k) (AllCells u j) = Alike n v u × (k ≡ j)
+  SameNeed (Object v) (Object u) = Alike n v u
+  SameNeed (Free f v) (Free g u) = (f ≡ g) × Alike n v u
+  SameNeed (Done made) (Done also) = made ≡ also
+  SameNeed Deeper Deeper = Unit {0}
+  SameNeed (Threads k) (Threads j) = k ≡ j
+  SameNeed (ThreadAt v) (ThreadAt u) = Alike n v u
+  SameNeed (Slots k) (Slots j) = k ≡ j
+  SameNeed (FirstSlots k) (FirstSlots j) = k ≡ j
+  SameNeed Processor Processor = Unit {0}
+  SameNeed (Constructs c vs) (Constructs d us) = (c ≡ d) × AllAlike vs us
   SameNeed x y = ⊥
 
-  one_same : (r : Result (Value Address)) (q : Result (Value Name)) → SameResult (Alike n) r q → SameResult AllAlike (one r) (core.one q)
+  one_same : (r : Result (Value Address)) (q : Result (Value Name)) → SameResult (Alike n) r q → SameResult AllAlike (one r) (one q)
   one_same r q h = on_same (Alike n) AllAlike r q _ _ h (λ v u g. (g, tt))
 
   module _ (told : (a : Address) (o : Name) (b : Address) (u : Name) → Told (is_object n) a o → Told (is_object n) b u
@@ -296,19 +296,16 @@ module _ (p : Program) (w : Machine) (s : Config) (n : Numbers) (st : Stands p w
         (slice_get_cases r.kids k).1
 
     all_ended_same : (made : List ℕ) → all_ended w.threads r.kids made ≡ core.all_ended s.threads x made
-    all_ended_same [] = refl
-    all_ended_same (k ∷ ks) =
-        ap (λ b. b && all_ended w.threads r.kids ks) (ended_same k)
-        ∙ ap (λ b. core.ended (fin.get s.threads (k ∷ x)) && b) (all_ended_same ks)
+    all_ended_same made = λ i. all_of (λ k. ended_same k i) made
 
     free_same : (f g : ℕ) (v : Value Address) (u : Value Name) → f ≡ g → Alike n v u
-        → SameVerdict n (check w t.processor r (Free f v)) (core.check (shapes p) s x l (core.Free g u))
-    free_same f g v u e h = if_same n _ _ Hold (Go []) core.Hold (core.Go [])
+        → SameVerdict n (check w t.processor r (Free f v)) (core.check (shapes p) s x l (Free g u))
+    free_same f g v u e h = if_same n _ _ Hold (Go []) Hold (Go [])
         (ap (λ b. b && is_held w.shelves v) (ap (λ c. (function_shape c f).atomic) same_shapes ∙ ap (λ i. (function_shape (shapes p) i).atomic) e)
         ∙ ap (λ b. (function_shape (shapes p) g).atomic && b) (held_at v u h)) tt tt
 
     constructs_same : (c d : ℕ) (vs : List (Value Address)) (us : List (Value Name)) → c ≡ d → AllAlike n vs us
-        → SameVerdict n (check w t.processor r (Constructs c vs)) (core.check (shapes p) s x l (core.Constructs d us))
+        → SameVerdict n (check w t.processor r (Constructs c vs)) (core.check (shapes p) s x l (Constructs d us))
     constructs_same c d vs us e h =
         let classes : class_shape w.code.shapes c ≡ class_shape (shapes p) d = ap (λ z. class_shape z c) same_shapes ∙ ap (class_shape (shapes p)) e in
         of_result_same n (SameCells n) _ _ (λ cells. []) (λ cells. [])
@@ -319,31 +316,31 @@ module _ (p : Program) (w : Machine) (s : Config) (n : Numbers) (st : Stands p w
     its_processor : slice_get n.processors t.processor ≡ Some l.home
     its_processor = home p w s n st t x l number live
 
-    check_same : (need : Need) (also : core.Need) → SameNeed n need also
+    check_same : (need : Need Address) (also : Need Name) → SameNeed n need also
         → SameVerdict n (check w t.processor r need) (core.check (shapes p) s x l also)
-    check_same (Known a) (core.Known b) h = of_result_same n (AllAlike n) a b (λ vs. vs) (λ us. us) h (λ vs us g. g)
-    check_same (Filled v) (core.Filled u) h =
+    check_same (Known a) (Known b) h = of_result_same n (AllAlike n) a b (λ vs. vs) (λ us. us) h (λ vs us g. g)
+    check_same (Filled v) (Filled u) h =
         pointed_same n v u _ _ h (λ a o i j g e. read_same n (cell_in w.shelves a i) (config.cell s o j) (cell_at a o i j g e))
-    check_same (Unfilled v) (core.Unfilled u) h =
+    check_same (Unfilled v) (Unfilled u) h =
         pointed_same n v u _ _ h (λ a o i j g e. writable_same n (cell_in w.shelves a i) (config.cell s o j) (cell_at a o i j g e))
-    check_same (AllCells v k) (core.AllCells u m) h = pointed_same n v u _ _ h.0 (λ a o i j g e.
+    check_same (AllCells v k) (AllCells u m) h = pointed_same n v u _ _ h.0 (λ a o i j g e.
         all_in_same n k m (cells_in w.shelves a) (config.cells_of (fin.get s.objects o)) h.1 (cells_at a o g))
-    check_same (Object v) (core.Object u) h = object_there_same n v u h
-    check_same (Free f v) (core.Free g u) h = free_same f g v u h.0 h.1
-    check_same (Done made) (core.Done also) h = if_same n _ _ (Go []) Hold (core.Go []) core.Hold
+    check_same (Object v) (Object u) h = object_there_same n v u h
+    check_same (Free f v) (Free g u) h = free_same f g v u h.0 h.1
+    check_same (Done made) (Done also) h = if_same n _ _ (Go []) Hold (Go []) Hold
         (all_ended_same made ∙ ap (core.all_ended s.threads x) h) tt tt
-    check_same Deeper core.Deeper h =
-        room_same n _ _ 1 1 core.most_calls _ (pairwise_length (SameInside n) r.inside l.inside alike.inside) refl
-    check_same (Threads k) (core.Threads j) h = room_same n _ _ k j core.most_threads _ (made_at t.processor l.home its_processor) h
-    check_same (ThreadAt v) (core.ThreadAt u) h =
-        room_same n _ _ 1 1 core.most_threads _ (made_at (home_in v) (config.home s u) (pointer_home p w s n st v u h)) refl
-    check_same (Slots k) (core.Slots j) h = room_same n _ _ k j core.most_slots _ (slots_at t.processor l.home its_processor) h
-    check_same (FirstSlots k) (core.FirstSlots j) h = room_same n 0 0 k j core.most_slots _ refl h
-    check_same Processor core.Processor h = room_same n _ _ 1 1 core.most_processors _ shelves_counted refl
-    check_same (Constructs c vs) (core.Constructs d us) h = constructs_same c d vs us h.0 h.1
+    check_same Deeper Deeper h =
+        room_same n _ _ 1 1 most_calls _ (pairwise_length (SameInside n) r.inside l.inside alike.inside) refl
+    check_same (Threads k) (Threads j) h = room_same n _ _ k j most_threads _ (made_at t.processor l.home its_processor) h
+    check_same (ThreadAt v) (ThreadAt u) h =
+        room_same n _ _ 1 1 most_threads _ (made_at (home_in v) (config.home s u) (pointer_home p w s n st v u h)) refl
+    check_same (Slots k) (Slots j) h = room_same n _ _ k j most_slots _ (slots_at t.processor l.home its_processor) h
+    check_same (FirstSlots k) (FirstSlots j) h = room_same n 0 0 k j most_slots _ refl h
+    check_same Processor Processor h = room_same n _ _ 1 1 most_processors _ shelves_counted refl
+    check_same (Constructs c vs) (Constructs d us) h = constructs_same c d vs us h.0 h.1
     check_same need also h = absurd h
 
-    check_all_same : (needs : List Need) (also : List core.Need) → Pairwise (SameNeed n) needs also
+    check_all_same : (needs : List (Need Address)) (also : List (Need Name)) → Pairwise (SameNeed n) needs also
         → SameVerdict n (check_all w t.processor r needs) (core.check_all (shapes p) s x l also)
     check_all_same [] [] h = tt
     check_all_same [] (other ∷ also) h = absurd h

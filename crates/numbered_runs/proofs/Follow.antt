@@ -5,21 +5,21 @@ use Rattle.std.specs.FinMap as fin
 use Rattle.global_ptr.specs.declared.ends.FaultKind.{FaultKind}
 use Rattle.cc_ops.specs.Values as values
 use Rattle.cc_ops.specs.Machine.{Address}
+use Rattle.cc_ops.specs.declared.number.ThreadNo.{ThreadNo}
 use Rattle.cc_core.specs.Names.{Name, Value}
 use Rattle.cc_core.specs.Core.{Program, Term, shapes}
 use Rattle.cc_core.specs.Asks.{Ask, Answer}
 use Rattle.cc_core.specs.Config as core
 use Rattle.cc_core.specs.Config.{Config, State, Live, Ended}
 use Rattle.cc_core.specs.Needs as core-needs
+use Rattle.cc_core.specs.Needs.{Verdict, Go, Hold, Bad}
 use Rattle.cc_core.specs.Next.{Next, Ready, Asks, After, next}
 use Rattle.cc_core.specs.Numbers.{Numbers, numbers_step}
 use Rattle.cc_core.specs.Steps as steps
 use Rattle.cc_code.specs.Code.{Then, Move, Silent, Does, Ends, Stuck, move}
 use Rattle.code_names.specs.Same.{Told, SameAsk}
 use Rattle.numbered_threads.specs.Numbered.{Naming, IsLater, GoesOnAlike, MovesAlike}
-use Rattle.cc_ops.specs.declared.number.ThreadNo.{ThreadNo}
 use Rattle.numbered_runs.specs.Machine.{Machine, Runner, Progress, Goes, Over, thread_in, ended_with}
-use Rattle.cc_core.specs.Needs.{Verdict, Go, Hold, Bad}
 use Rattle.numbered_runs.specs.Looks.{needs, check_all}
 use Rattle.numbered_runs.specs.Stands.{Stands, IsThread, is_object, IsAsk, SameAsked, SameLive, SameState, IsThreadAt}
 use Rattle.numbered_runs.specs.Steps.{Gone, decide, join, act_asked, act, act_progress, step}
@@ -67,7 +67,7 @@ module _ (p : Program) (w : Machine) (s : Config) (n : Numbers) (st : Stands p w
           all.2
 
       -- where its needs have these verdicts
-      decided : (v : Verdict) (u : core-needs.Verdict) → check_all w t.processor r (needs w.code.shapes q) ≡ v
+      decided : (v : Verdict Address) (u : core-needs.Verdict Name) → check_all w t.processor r (needs w.code.shapes q) ≡ v
           → core-needs.check_all (shapes p) s x l (core-needs.needs (shapes p) a) ≡ u → SameVerdict n v u → l.asked ≡ None
           → steps.step p x s ≡ steps.decide p x s l line a k u → DoesAlike p s n t (decide w t r line q j v)
       decided (Go vs) (core-needs.Go us) is are verdict none moves = (

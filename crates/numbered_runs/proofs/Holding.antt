@@ -5,6 +5,7 @@ use Rattle.std.specs.Prelude.{if◌then◌else◌}
 use Rattle.cc_ops.specs.Values as values
 use Rattle.cc_ops.specs.Values.{Void, Int, Null, Ptr}
 use Rattle.cc_ops.specs.Machine.{Address}
+use Rattle.cc_ops.specs.Shelves.{Shelf, put_held}
 use Rattle.cc_core.specs.Names.{Name, Map, Value, same_name}
 use Rattle.cc_core.specs.Core.{Shapes, function_shape}
 use Rattle.cc_core.specs.Asks.{Ask, Enters, Leaves}
@@ -13,7 +14,6 @@ use Rattle.cc_core.specs.Needs.{is_inside, same_object}
 use Rattle.cc_core.specs.Numbers.{Numbers}
 use Rattle.code_names.specs.Same.{Pairwise, Told}
 use Rattle.cc_core.proofs.NameLaws.{told_same, told_itself}
-use Rattle.cc_ops.specs.Shelves.{Shelf, put_held}
 use Rattle.numbered_runs.specs.Machine.{Progress, Goes, Over}
 use Rattle.numbered_runs.specs.Effects.{note_held, leave, leave_all, held_after}
 use Rattle.numbered_runs.specs.Stands.{is_object, Alike, SameInside, SameState}

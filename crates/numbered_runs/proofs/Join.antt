@@ -4,6 +4,8 @@ use Rattle.std.specs.FinMap as fin
 use Rattle.cc_ops.specs.Values as values
 use Rattle.cc_ops.specs.Values.{Ptr}
 use Rattle.cc_ops.specs.Machine.{Address}
+use Rattle.cc_ops.specs.declared.number.ThreadNo.{ThreadNo}
+use Rattle.cc_ops.specs.Shelves.{Shelf}
 use Rattle.cc_core.specs.Names.{Name, Value}
 use Rattle.cc_core.specs.Core.{Program, Term, shapes}
 use Rattle.cc_core.specs.Asks.{Ask, Answer}
@@ -22,9 +24,7 @@ use Rattle.numbered_threads.specs.Numbered.{GoesOnAlike}
 use Rattle.run_numbers.specs.RunNumbers.{IsNumbered, goes_on}
 use Rattle.run_numbers.proofs.Numbers.{reached}
 use Rattle.one_holder.proofs.Law.{one_holder}
-use Rattle.cc_ops.specs.declared.number.ThreadNo.{ThreadNo}
 use Rattle.numbered_runs.specs.Machine.{Machine, Runner}
-use Rattle.cc_ops.specs.Shelves.{Shelf}
 use Rattle.numbered_runs.specs.Stands.{Stands, IsThread, is_object, Alike, SameLive, SameState, IsThreadAt}
 use Rattle.numbered_runs.specs.Steps.{resumed, joined}
 use Rattle.numbered_runs.proofs.Held.{by_it, alone, freed_is, held_with}

@@ -3,9 +3,9 @@ use Rattle.std.proofs.Common.{◌≡◌, ◌≢◌, ℕ, zero, suc, List, [], �
 use Rattle.std.proofs.lemmas.Option.{none-some, same_Some, option_and_then_some}
 use Rattle.std.specs.Prelude.{slice_get}
 use Rattle.std.specs.Option.{option_and_then}
+use Rattle.cc_ops.specs.Shelves.{changed}
 use Rattle.code_names.specs.Same.{Pairwise}
 pub use Rattle.run_numbers.proofs.Lists.{pushed_old as get_in_front, pushed_new as get_last}
-use Rattle.cc_ops.specs.Shelves.{changed}
 
 -- ---- what stands at a number
 

@@ -4,6 +4,7 @@ use Rattle.std.specs.FinMap as fin
 use Rattle.cc_ops.specs.Values as values
 use Rattle.cc_ops.specs.Values.{Ptr, Plain, Empty, Full}
 use Rattle.cc_ops.specs.Machine.{Address}
+use Rattle.cc_ops.specs.Shelves.{Shelf}
 use Rattle.cc_core.specs.Names.{Name, Map, Value, Cell, puts}
 use Rattle.cc_core.specs.Core.{Program, shapes}
 use Rattle.cc_core.specs.Config as config
@@ -17,7 +18,6 @@ use Rattle.numbered_threads.specs.Numbered.{IsLater}
 use Rattle.run_numbers.proofs.Free.{AllFree, writes_some, none_or_some}
 use Rattle.run_numbers.proofs.Slots.{slots_housed}
 use Rattle.numbered_runs.specs.Machine.{Machine}
-use Rattle.cc_ops.specs.Shelves.{Shelf}
 use Rattle.numbered_runs.specs.Effects.{Effect, write_all, more_shelves, put_things, addresses}
 use Rattle.numbered_runs.specs.Stands.{Stands, is_object, Alike, SameCell}
 use Rattle.numbered_runs.proofs.Lists.{pairwise_kept, pairwise_length}

@@ -6,6 +6,8 @@ use Rattle.std.specs.Prelude.{◌==◌, slice_get}
 use Rattle.std.specs.FinMap as fin
 use Rattle.cc_ops.specs.Values.{Value, Void, Int, Null, Ptr}
 use Rattle.cc_ops.specs.Machine.{Address, same_address}
+use Rattle.cc_ops.specs.declared.number.ThreadNo.{ThreadNo}
+use Rattle.cc_ops.specs.Shelves.{Thing, Shelf, thing_in, home_in}
 use Rattle.cc_core.specs.Names.{Name, same_name}
 use Rattle.cc_core.specs.Core.{Program, shapes}
 use Rattle.cc_core.specs.Config as core
@@ -19,9 +21,7 @@ use Rattle.run_numbers.proofs.Numbers.{threads_are_numbered, objects_are_numbere
 use Rattle.run_numbers.proofs.Homes.{live_at_home, made_at_home}
 use Rattle.cc_core.proofs.NameLaws.{told_same, told_itself}
 use Rattle.run_numbers.proofs.Processors.{one_number, root_first, processors_stay_numbered}
-use Rattle.cc_ops.specs.declared.number.ThreadNo.{ThreadNo}
 use Rattle.numbered_runs.specs.Machine.{Machine, Progress, thread_in}
-use Rattle.cc_ops.specs.Shelves.{Thing, Shelf, thing_in, home_in}
 use Rattle.numbered_runs.specs.Stands.{Stands, object_named, is_named, is_object, Alike, IsThread, IsThreadAt, IsThingAt, AreThreads, IsShelf}
 use Rattle.numbered_runs.proofs.Lists.{both_found, then_found, pairwise_right, pairwise_left}
 

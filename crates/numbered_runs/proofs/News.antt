@@ -6,6 +6,7 @@ use Rattle.std.specs.FinMap as fin
 use Rattle.cc_ops.specs.Values as values
 use Rattle.cc_ops.specs.Values.{Void, Int, Null, Ptr}
 use Rattle.cc_ops.specs.Machine.{Address}
+use Rattle.cc_ops.specs.declared.number.ThreadNo.{ThreadNo}
 use Rattle.cc_core.specs.Names.{Name, Map, Value, puts}
 use Rattle.cc_core.specs.Core.{Program, Shapes, shapes, function_shape}
 use Rattle.cc_core.specs.Config as config
@@ -19,7 +20,6 @@ use Rattle.run_numbers.proofs.Numbers.{threads_are_numbered}
 use Rattle.cc_core.proofs.NameLaws.{told_same}
 use Rattle.run_numbers.proofs.Processors.{object_founds, thread_is_housed, object_is_housed}
 use Rattle.one_holder.proofs.Values.{holds_found}
-use Rattle.cc_ops.specs.declared.number.ThreadNo.{ThreadNo}
 use Rattle.numbered_runs.specs.Machine.{Machine, Progress, Goes, Over}
 use Rattle.numbered_runs.specs.Stands.{Stands, is_object, SameInside, SameState}
 use Rattle.numbered_runs.proofs.Naming.{thread_placed, thread_at, thing_at}

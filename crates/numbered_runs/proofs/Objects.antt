@@ -5,6 +5,7 @@ use Rattle.std.specs.Option.{option_map_or}
 use Rattle.cc_ops.specs.Values as values
 use Rattle.cc_ops.specs.Values.{Ptr}
 use Rattle.cc_ops.specs.Machine.{Address}
+use Rattle.cc_ops.specs.Shelves.{Thing, Shelf, no_shelf, changed, change_thing, put_thing, next_address}
 use Rattle.cc_core.specs.Names.{Name, Map, count, added}
 use Rattle.cc_core.specs.Core.{Program}
 use Rattle.cc_core.specs.Config.{Config, Object, count_slots}
@@ -17,7 +18,6 @@ use Rattle.run_numbers.proofs.Lists.{listed_same, listed_other}
 use Rattle.run_numbers.proofs.Free.{objects_stay}
 use Rattle.run_numbers.proofs.Numbers.{threads_are_numbered, objects_are_numbered}
 use Rattle.run_numbers.proofs.Processors.{one_number}
-use Rattle.cc_ops.specs.Shelves.{Thing, Shelf, no_shelf, changed, change_thing, put_thing, next_address}
 use Rattle.numbered_runs.specs.Effects.{put_things, addresses}
 use Rattle.numbered_runs.specs.Stands.{is_object}
 use Rattle.numbered_runs.proofs.Lists.{get_one, get_last, pairwise_length, pairwise_right, pairwise_kept, pairwise_changed, pairwise_push}

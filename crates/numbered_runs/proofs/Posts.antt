@@ -6,7 +6,8 @@ use Rattle.std.specs.Prelude.{slice_get, if◌then◌else◌}
 use Rattle.std.specs.FinMap as fin
 use Rattle.cc_ops.specs.Values as values
 use Rattle.cc_ops.specs.Values.{Void, Int, Null, Ptr}
-use Rattle.cc_ops.specs.Machine.{Address}
+use Rattle.cc_ops.specs.Machine.{Address, Values}
+use Rattle.cc_ops.specs.declared.number.ThreadNo.{ThreadNo}
 use Rattle.cc_core.specs.Names.{Name, Value, same_name}
 use Rattle.cc_core.specs.Core.{Program, Term}
 use Rattle.cc_core.specs.Asks.{Ask, Reads, Writes, Copies, Indexes, Shifts, Computes, Tests, Makes, MakesWith, Builds, Enters, Leaves}
@@ -22,9 +23,7 @@ use Rattle.run_numbers.proofs.Numbers.{objects_are_numbered}
 use Rattle.run_numbers.proofs.Homes.{made_at_home}
 use Rattle.cc_core.proofs.NameLaws.{told_same, told_itself}
 use Rattle.run_numbers.proofs.Processors.{one_number}
-use Rattle.cc_ops.specs.declared.number.ThreadNo.{ThreadNo}
 use Rattle.numbered_runs.specs.Machine.{Machine, Progress, Goes, Over, thread_in}
-use Rattle.cc_ops.specs.Machine.{Values}
 use Rattle.numbered_runs.specs.Posts.{where_address, posted, move_posts, posts}
 use Rattle.numbered_runs.specs.Stands.{Stands, IsThread, is_object, Alike, SameAsked, SameState}
 use Rattle.numbered_runs.proofs.Naming.{object_place, thread_at}

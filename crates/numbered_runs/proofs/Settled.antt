@@ -1,6 +1,7 @@
 -- A thread of the code, after its silent moves, and the thread that it follows: both ask, or both have ended.
 use Rattle.std.proofs.Common.{◌≡◌, ℕ, suc, ◌∷◌, length, slice_get, Some, refl, sym, subst}
 use Rattle.cc_ops.specs.Machine.{Address}
+use Rattle.cc_ops.specs.declared.number.ThreadNo.{ThreadNo}
 use Rattle.cc_core.specs.Names.{Name, Value}
 use Rattle.cc_core.specs.Core.{Program, Term}
 use Rattle.cc_core.specs.Config as core
@@ -17,7 +18,6 @@ use Rattle.numbered_threads.specs.Numbered.{Stands as Follows}
 use Rattle.numbered_threads.specs.Quiet.{quiet_end}
 use Rattle.numbered_threads.proofs.Numbered.{quiet_stands, moves_alike}
 use Rattle.numbered_threads.proofs.QuietLaws.{kept_quietly, quiet_end_is_loud}
-use Rattle.cc_ops.specs.declared.number.ThreadNo.{ThreadNo}
 use Rattle.numbered_runs.specs.Machine.{Runner}
 use Rattle.numbered_runs.specs.Stands.{IsThread, is_object, IsAsk, SameInside, SameAsked, SameLive, SameState}
 use Rattle.numbered_runs.specs.Steps.{ended_or, with_thread, settle}

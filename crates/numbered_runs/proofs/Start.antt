@@ -7,11 +7,14 @@ use Rattle.std.proofs.Common.{⊎_elim}
 use Rattle.std.specs.FinMap as fin
 use Rattle.cc_ops.specs.Values.{Void, Ptr}
 use Rattle.cc_ops.specs.declared.kind.Kind.{Kind}
+use Rattle.cc_ops.specs.Shelves.{Shelf, no_shelf}
+use Rattle.cc_ops.specs.Machine.{Values}
 use Rattle.cc_core.specs.Names.{Name, Map, Value, name_cmp, or_zero}
 use Rattle.cc_core.specs.Core.{Program, Shapes, Function, shapes, function, function_shape}
 use Rattle.cc_core.specs.Config as core
 use Rattle.cc_core.specs.Config.{Config, Object, State, Live, count_slots}
 use Rattle.cc_core.specs.Effects as effects
+use Rattle.cc_core.specs.Effects.{cells_with}
 use Rattle.cc_core.specs.Needs.{any_holds, is_inside}
 use Rattle.cc_core.specs.Next.{entered}
 use Rattle.cc_core.specs.Numbers.{Numbers, listed, new_processors, first_numbers}
@@ -29,10 +32,7 @@ use Rattle.one_holder.proofs.Values.{holds_found}
 use Rattle.run_numbers.specs.RunNumbers.{begins}
 use Rattle.run_numbers.proofs.Lists.{listed_empty}
 use Rattle.run_numbers.proofs.Free.{first_parameters_free}
-use Rattle.cc_ops.specs.Shelves.{Shelf, no_shelf}
 use Rattle.numbered_runs.specs.Machine.{Runner}
-use Rattle.cc_ops.specs.Machine.{Values}
-use Rattle.cc_core.specs.Effects.{cells_with}
 use Rattle.numbered_runs.specs.Effects.{parameters}
 use Rattle.numbered_runs.specs.Stands.{Stands, is_object, SameCell, IsThreadAt, IsThingAt, AreThreads}
 use Rattle.numbered_runs.specs.Steps.{settle}

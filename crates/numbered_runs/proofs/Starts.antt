@@ -4,6 +4,7 @@ use Rattle.std.proofs.lemmas.Option.{none-some}
 use Rattle.std.specs.FinMap as fin
 use Rattle.cc_ops.specs.Values as values
 use Rattle.cc_ops.specs.Machine.{Address}
+use Rattle.cc_ops.specs.declared.number.ThreadNo.{ThreadNo}
 use Rattle.cc_core.specs.Names.{Name, Map, Value, puts}
 use Rattle.cc_core.specs.Core.{Program, Term}
 use Rattle.cc_core.specs.Config as core
@@ -20,7 +21,6 @@ use Rattle.numbered_threads.specs.Numbered.{Stands as Follows}
 use Rattle.numbered_threads.proofs.Numbered.{later_stands}
 use Rattle.run_numbers.specs.RunNumbers.{IsListed}
 use Rattle.run_numbers.proofs.Free.{AllFree}
-use Rattle.cc_ops.specs.declared.number.ThreadNo.{ThreadNo}
 use Rattle.numbered_runs.specs.Machine.{Machine, Progress, Goes, Over, put_thread, made_in}
 use Rattle.numbered_runs.specs.Stands.{Stands, is_object, IsThread, SameInside, SameAsked, SameState, IsThreadAt}
 use Rattle.numbered_runs.specs.Steps.{settle, new_runner, settle_all, more_tables, push_all, numbers_on}

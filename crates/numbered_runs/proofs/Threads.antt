@@ -3,6 +3,8 @@ use Rattle.std.proofs.Common.{◌≡◌, ◌≢◌, ℕ, zero, suc, ◌+◌, Lis
 use Rattle.std.proofs.lemmas.Option.{none-some, same_Some}
 use Rattle.std.specs.Option.{option_map_or}
 use Rattle.cc_ops.specs.Machine.{Address}
+use Rattle.cc_ops.specs.declared.number.ThreadNo.{ThreadNo}
+use Rattle.cc_ops.specs.Shelves.{changed}
 use Rattle.cc_core.specs.Names.{Name, Map}
 use Rattle.cc_core.specs.Config as core
 use Rattle.cc_core.specs.Core.{Term}
@@ -13,9 +15,7 @@ use Rattle.code_names.specs.Same.{Pairwise}
 use Rattle.run_numbers.specs.RunNumbers.{IsListed}
 use Rattle.run_numbers.proofs.Lists.{listed_same, listed_other}
 use Rattle.run_numbers.proofs.Free.{threads_stay}
-use Rattle.cc_ops.specs.declared.number.ThreadNo.{ThreadNo}
 use Rattle.numbered_runs.specs.Machine.{Progress, put_thread, push_thread, made_in}
-use Rattle.cc_ops.specs.Shelves.{changed}
 use Rattle.numbered_runs.specs.Stands.{IsThread}
 use Rattle.numbered_runs.specs.Steps.{push_all, numbers_on}
 use Rattle.numbered_runs.proofs.Lists.{get_one, get_last, pairwise_length, pairwise_right, pairwise_kept, pairwise_changed, pairwise_push}

@@ -4,7 +4,9 @@ use Rattle.std.proofs.Common.{◌≡◌, ℕ, true, List, [], ◌∷◌, slice_g
 use Rattle.std.specs.FinMap as fin
 use Rattle.std.proofs.lemmas.Bool.{false≢true}
 use Rattle.cc_ops.specs.Values as values
-use Rattle.cc_ops.specs.Machine.{Address}
+use Rattle.cc_ops.specs.Machine.{Address, Values}
+use Rattle.cc_ops.specs.declared.number.ThreadNo.{ThreadNo}
+use Rattle.cc_ops.specs.Shelves.{Shelf}
 use Rattle.cc_core.specs.Names.{Name, Value}
 use Rattle.cc_core.specs.Core.{Program, Shapes}
 use Rattle.cc_core.specs.Asks.{Ask, Reads, Writes, Copies, Indexes, Shifts, Computes, Tests, Makes, MakesWith, Builds, Enters, Leaves}
@@ -12,15 +14,12 @@ use Rattle.cc_core.specs.Asks.{ForksAll, ForksOne, Joins, Spawns, Prints, Calls,
 use Rattle.cc_core.specs.Config as config
 use Rattle.cc_core.specs.Config.{Config, Live}
 use Rattle.cc_core.specs.Effects as core
+use Rattle.cc_core.specs.Effects.{branch_count, is_call}
 use Rattle.cc_core.specs.Numbers.{Numbers}
 use Rattle.cc_code.specs.Code.{Thread, Starting}
 use Rattle.code_names.specs.Same.{Told, SameAsk}
-use Rattle.cc_ops.specs.declared.number.ThreadNo.{ThreadNo}
 use Rattle.numbered_runs.specs.Machine.{Machine, Runner}
-use Rattle.cc_ops.specs.Shelves.{Shelf}
-use Rattle.cc_ops.specs.Machine.{Values}
 use Rattle.numbered_runs.specs.Effects.{effect, start_home, held_after}
-use Rattle.cc_core.specs.Effects.{branch_count, is_call}
 use Rattle.numbered_runs.specs.Stands.{Stands, IsThread, is_object, Alike}
 use Rattle.numbered_runs.proofs.Naming.{home, pointer_home}
 

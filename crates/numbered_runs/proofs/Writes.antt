@@ -7,6 +7,7 @@ use Rattle.cc_ops.specs.Values as values
 use Rattle.cc_ops.specs.Values.{Void, Int, Null, Ptr, Plain, Empty, Full}
 use Rattle.cc_ops.specs.Cells as cells
 use Rattle.cc_ops.specs.Machine.{Address}
+use Rattle.cc_ops.specs.Shelves.{Thing, Shelf, changed, put_cell, cell_in}
 use Rattle.cc_core.specs.Names.{Name, Map, Value, Cell}
 use Rattle.cc_core.specs.Config as core
 use Rattle.cc_core.specs.Config.{Object, put_cells, cells_of}
@@ -14,7 +15,6 @@ use Rattle.cc_core.specs.Numbers.{Numbers, listed}
 use Rattle.cc_core.proofs.Maps.{get_same, get_other}
 use Rattle.code_names.specs.Same.{Pairwise, Told, SameValue}
 use Rattle.run_numbers.specs.RunNumbers.{IsListed}
-use Rattle.cc_ops.specs.Shelves.{Thing, Shelf, changed, put_cell, cell_in}
 use Rattle.numbered_runs.specs.Effects.{write_value, write_at, write_all}
 use Rattle.numbered_runs.specs.Stands.{is_object, Alike, SameCell}
 use Rattle.numbered_runs.proofs.Lists.{SameOption, same_option, pairwise_right}

@@ -2,6 +2,9 @@
 use Rattle.std.specs.Prelude.{◌≡◌, ℤ, List, [], ◌∷◌, Some, None}
 use Rattle.std.specs.FinMap as fin
 use Rattle.cc_ops.specs.Values.{Void, Int}
+use Rattle.cc_ops.specs.declared.number.ThreadNo.{ThreadNo}
+use Rattle.cc_ops.specs.Shelves.{Shelf, no_shelf}
+use Rattle.cc_ops.specs.Machine.{Values}
 use Rattle.cc_core.specs.Names.{Name}
 use Rattle.cc_core.specs.Core.{Program, function}
 use Rattle.cc_core.specs.Config.{Config, Thread, Live}
@@ -9,10 +12,7 @@ use Rattle.cc_core.specs.Steps as core
 use Rattle.cc_core.specs.Numbers.{Numbers, numbers_step}
 use Rattle.cc_code.specs.Code.{Runs, enter_at}
 use Rattle.cc_code.specs.Layout.{layout}
-use Rattle.cc_ops.specs.declared.number.ThreadNo.{ThreadNo}
 use Rattle.numbered_runs.specs.Machine.{Machine}
-use Rattle.cc_ops.specs.Shelves.{Shelf, no_shelf}
-use Rattle.cc_ops.specs.Machine.{Values}
 use Rattle.numbered_runs.specs.Effects.{parameters, put_things, addresses}
 use Rattle.numbered_runs.specs.Stands.{Stands, IsThread}
 use Rattle.numbered_runs.specs.Steps.{Outcome, Gone, Waits, Faults, Moves, settle}

@@ -5,13 +5,13 @@ use Rattle.cc_ops.specs.Cells.{written}
 use Rattle.cc_ops.specs.Classes.{construct}
 use Rattle.cc_ops.specs.declared.kind.Kind.{Kind}
 use Rattle.cc_ops.specs.Machine.{Address, Values, same_address}
+use Rattle.cc_ops.specs.Shelves.{Shelf, cell_in, put_cell, put_thing, put_held, no_shelf, next_address, home_in}
 use Rattle.cc_core.specs.Core.{Shapes, function_shape, class_shape}
 use Rattle.cc_core.specs.Asks.{Ask, Reads, Writes, Copies, Indexes, Shifts, Computes, Tests, Makes, MakesWith, Builds, Enters, Leaves}
 use Rattle.cc_core.specs.Asks.{ForksAll, ForksOne, Joins, Spawns, Prints, Calls, Casts, NewProcessor}
 use Rattle.cc_core.specs.Effects.{cells_with, constructed, printed, left_behind}
 use Rattle.cc_code.specs.Code.{Thread, Starting}
 use Rattle.numbered_runs.specs.Machine.{Machine, Runner}
-use Rattle.cc_ops.specs.Shelves.{Shelf, cell_in, put_cell, put_thing, put_held, no_shelf, next_address, home_in}
 
 -- objects: those that are made, in order, each on a processor. writes: the values written, each with its address. starts: the threads that are
 -- made, besides branches. processors: how many are made. prints: the bytes written. inside: the functions that the thread is inside afterwards

@@ -3,9 +3,9 @@ use Rattle.std.specs.Prelude.{ℕ, suc, ◌+◌, List, [], ◌∷◌, ◌++◌, 
 use Rattle.std.specs.Option.{option_and_then, option_map_or}
 use Rattle.cc_ops.specs.Values.{Value}
 use Rattle.cc_ops.specs.Machine.{Address}
-use Rattle.cc_code.specs.Code.{Code, Thread}
 use Rattle.cc_ops.specs.Shelves.{Shelf, changed}
 use Rattle.cc_ops.specs.declared.number.ThreadNo.{ThreadNo}
+use Rattle.cc_code.specs.Code.{Code, Thread}
 
 -- A thread that has not ended: what it has left to do; where it stands at a remote call, the thread that was made for it; the threads that
 -- it made, in order; and the functions that it is inside, each with its object, the innermost first.

@@ -2,12 +2,12 @@
 use Rattle.std.specs.Prelude.{true, Option, Some, None}
 use Rattle.cc_ops.specs.Values.{Value}
 use Rattle.cc_ops.specs.Machine.{Address}
+use Rattle.cc_ops.specs.declared.number.ThreadNo.{ThreadNo}
 use Rattle.cc_core.specs.Asks.{Ask, Reads, Writes, Calls, Casts, NewProcessor}
 use Rattle.cc_core.specs.Numbers.{Post, Get, Put, Call, Cast, Make}
-use Rattle.cc_code.specs.Code.{Code, Move, Silent, Does, Ends, Stuck, move}
-use Rattle.cc_ops.specs.declared.number.ThreadNo.{ThreadNo}
-use Rattle.numbered_runs.specs.Machine.{Progress, Goes, Over}
 use Rattle.cc_core.specs.Needs.{at_object}
+use Rattle.cc_code.specs.Code.{Code, Move, Silent, Does, Ends, Stuck, move}
+use Rattle.numbered_runs.specs.Machine.{Progress, Goes, Over}
 
 -- through a null pointer nothing is posted
 abbrev pub where_address : Value Address → Post → Option Post

@@ -4,6 +4,8 @@ use Rattle.std.specs.Option.{option_and_then}
 use Rattle.std.specs.FinMap as fin
 use Rattle.cc_ops.specs.Values.{Value, Ptr, Cell, Plain, Empty, Full}
 use Rattle.cc_ops.specs.Machine.{Address}
+use Rattle.cc_ops.specs.declared.number.ThreadNo.{ThreadNo}
+use Rattle.cc_ops.specs.Shelves.{Thing, Shelf}
 use Rattle.cc_core.specs.Names.{Name, same_name, count}
 use Rattle.cc_core.specs.Core.{Program, Shapes, shapes}
 use Rattle.cc_core.specs.Config as core
@@ -16,9 +18,7 @@ use Rattle.cc_code.specs.Layout.{layout}
 use Rattle.code_names.specs.Same.{Pairwise, Told, SameValue}
 use Rattle.numbered_threads.specs.Numbered.{Stands as Follows}
 use Rattle.run_numbers.specs.RunNumbers.{IsNumbered}
-use Rattle.cc_ops.specs.declared.number.ThreadNo.{ThreadNo}
 use Rattle.numbered_runs.specs.Machine.{Machine, Runner, Progress, Goes, Over}
-use Rattle.cc_ops.specs.Shelves.{Thing, Shelf}
 
 -- ---- which numbers stand for which names
 

@@ -2,19 +2,17 @@
 use Rattle.std.specs.Prelude.{ℕ, zero, suc, Bool, true, false, List, [], ◌∷◌, ◌++◌, length, Option, Some, None}
 use Rattle.global_ptr.specs.declared.ends.FaultKind.{FaultKind}
 use Rattle.cc_ops.specs.Values.{Value}
-use Rattle.cc_ops.specs.Machine.{Address}
+use Rattle.cc_ops.specs.Machine.{Address, Values}
+use Rattle.cc_ops.specs.declared.number.ThreadNo.{ThreadNo}
+use Rattle.cc_ops.specs.Shelves.{Shelf}
 use Rattle.cc_core.specs.Asks.{Ask, Answer}
-use Rattle.cc_core.specs.Effects.{numbers}
+use Rattle.cc_core.specs.Effects.{numbers, branch_count, is_call}
+use Rattle.cc_core.specs.Needs.{Verdict, Go, Hold, Bad}
 use Rattle.cc_code.specs.Code.{Code, Thread, Then, Move, Silent, Does, Ends, Stuck, move}
 use Rattle.numbered_threads.specs.Quiet.{quiet_end}
-use Rattle.cc_ops.specs.declared.number.ThreadNo.{ThreadNo}
 use Rattle.numbered_runs.specs.Machine.{Machine, Runner, Progress, Goes, Over, thread_in, put_thread, push_thread, made_in, ended_with}
-use Rattle.cc_ops.specs.Shelves.{Shelf}
-use Rattle.cc_ops.specs.Machine.{Values}
-use Rattle.cc_core.specs.Needs.{Verdict, Go, Hold, Bad}
 use Rattle.numbered_runs.specs.Looks.{needs, check_all}
 use Rattle.numbered_runs.specs.Effects.{Effect, effect, start_home, write_all, more_shelves, put_things, addresses, held_after, leave_all}
-use Rattle.cc_core.specs.Effects.{branch_count, is_call}
 
 -- no such thread goes on; it waits; its next move is a fault at a line; or a step, after which the machine is this
 pub data Outcome : Type 0 where
@@ -108,7 +106,7 @@ module _ (w : Machine) (t : ThreadNo) (r : Runner) (ask : Ask Address) (k : Answ
     output = w.output ++ its_effect.prints;
   }
 
-abbrev pub decide : Machine → ThreadNo → Runner → (line : ℕ) → Ask Address → (Answer Address → Then Address) → Verdict → Outcome
+abbrev pub decide : Machine → ThreadNo → Runner → (line : ℕ) → Ask Address → (Answer Address → Then Address) → Verdict Address → Outcome
 decide w t r line ask k Hold = Waits
 decide w t r line ask k (Bad kind) = Faults kind line
 decide w t r line ask k (Go found) = Moves (apply w t r ask k found)

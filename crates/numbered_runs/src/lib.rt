@@ -3,6 +3,7 @@
 
 ghost use Rattle.std.specs.Prelude.{◌≡◌, ◌<◌, [], length, List, ℤ};
 ghost use Rattle.std.specs.FinMap as fin;
+ghost use Rattle.cc_ops.specs.declared.number.ThreadNo.{ThreadNo};
 ghost use Rattle.cc_core.specs.Names.{Name};
 ghost use Rattle.cc_core.specs.Core.{Program};
 ghost use Rattle.cc_core.specs.Config.{Config};
@@ -15,7 +16,6 @@ ghost use Rattle.numbered_runs.specs.Machine.{Machine, thread_in, all_going};
 ghost use Rattle.numbered_runs.specs.Posts.{posts};
 ghost use Rattle.numbered_runs.specs.Stands.{Stands, IsThread};
 ghost use Rattle.numbered_runs.specs.Steps.{step};
-ghost use Rattle.cc_ops.specs.declared.number.ThreadNo.{ThreadNo};
 
 /// The machine of numbers at the beginning of a run stands for the configuration where the run begins.
 pub fn numbered_run_begins()

@@ -24,10 +24,10 @@ use Rattle.cc_walk.specs.Views.{machine_of}
 use Rattle.cc_walk.specs.declared.walk.Stepped.{Stepped}
 use Rattle.cc_walk.specs.declared.walk.Stepped.TheVariants as stepped
 use Rattle.numbered_runs.specs.Machine.{Machine}
-use Rattle.cc_ops.specs.declared.number.ThreadNo.{ThreadNo}
 use Rattle.numbered_runs.specs.Stands.{thread_named}
 use Rattle.rsr_message.specs.declared.requests.Request.{Request}
 use Rattle.rsr_message.specs.Requests.{SpellsEither}
+use Rattle.cc_ops.specs.declared.number.ThreadNo.{ThreadNo}
 use Rattle.trace_check.specs.Replays.{IsAt, MakesStep, ReplaysOwn, ReplaysServing, TellsLife}
 use Rattle.trace_check.specs.declared.replay.Replay.{Replay}
 

@@ -7,6 +7,7 @@ use Rattle.global_ptr.specs.declared.values.Value.{Value as RustValue}
 use Rattle.global_ptr.specs.declared.values.Value.TheVariants as machine
 use Rattle.cc_ops.specs.Machine.{Address, value_of}
 use Rattle.cc_ops.specs.Values.{Value, Void, Int, Null, Ptr}
+use Rattle.cc_ops.specs.declared.number.ThreadNo.{ThreadNo}
 use Rattle.cc_core.specs.Numbers.{Post, Get, Put, Call, Cast, Make}
 use Rattle.cc_core.specs.Core.{Program}
 use Rattle.cc_explains.specs.Places.{Place}
@@ -14,7 +15,6 @@ use Rattle.cc_explains.specs.Moves.{posted_at, asker, IsServedAt}
 use Rattle.cc_explains.specs.Explains.{IsRequest}
 use Rattle.cc_explains.proofs.Reading.{same_request}
 use Rattle.cc_walk.specs.Posted.{anybody, AreValues, Says, IsPosted, AsksFor}
-use Rattle.cc_ops.specs.declared.number.ThreadNo.{ThreadNo}
 use Rattle.rsr_message.specs.declared.requests.Request.{Request}
 use Rattle.rsr_message.specs.declared.requests.Body.{Body}
 use Rattle.rsr_message.specs.declared.requests.Body.TheVariants as body

@@ -5,6 +5,7 @@ use Rattle.std.proofs.lemmas.List.{take_more}
 use Rattle.std.specs.List.{AllByRecursion}
 use Rattle.cc_core.specs.Core.{Program}
 use Rattle.global_ptr.specs.declared.ends.Standing.{Standing}
+use Rattle.cc_ops.specs.declared.number.ThreadNo.{ThreadNo}
 use Rattle.cc_explains.specs.declared.why.Why.{Why}
 use Rattle.cc_explains.specs.declared.why.Why.TheVariants.{OtherEnd}
 use Rattle.cc_explains.specs.Places.{Place, Step, beginning}
@@ -14,7 +15,6 @@ use Rattle.cc_explains.proofs.Reading.{joined, read_explained}
 use Rattle.effect_journal.specs.declared.entry.Entry.{Entry}
 use Rattle.effect_journal.specs.declared.entry.Entry.TheVariants.{Run, End}
 use Rattle.effect_journal.specs.declared.entry.FaultBy.{FaultBy}
-use Rattle.cc_ops.specs.declared.number.ThreadNo.{ThreadNo}
 
 own_joined : (p : Program) (t : ThreadNo) (ms ns : List Step) → AllByRecursion (IsOwnStep p t) ms → AllByRecursion (IsOwnStep p t) ns
     → AllByRecursion (IsOwnStep p t) (ms ++ ns)

@@ -1,5 +1,6 @@
 -- A run is made again as the entries of a journal name its steps.
 use Rattle.std.specs.Prelude.{◌≡◌, ℕ, Bool, true, false, List, Option, Some, None}
+use Rattle.cc_ops.specs.declared.number.ThreadNo.{ThreadNo}
 use Rattle.cc_core.specs.Names.{Name}
 use Rattle.cc_core.specs.Core.{Program}
 use Rattle.cc_core.specs.Config.{Config}
@@ -13,7 +14,6 @@ use Rattle.cc_explains.specs.Unexplained.{AgainstOwn, AgainstServing, IsFirst, F
 use Rattle.cc_walk.specs.Views.{machine_of}
 use Rattle.effect_journal.specs.declared.entry.Entry.{Entry}
 use Rattle.effect_journal.specs.declared.entry.Entry.TheVariants.{Run}
-use Rattle.cc_ops.specs.declared.number.ThreadNo.{ThreadNo}
 use Rattle.numbered_runs.specs.Stands.{Stands, IsThread}
 use Rattle.trace_check.specs.declared.replay.Replay.{Replay}
 

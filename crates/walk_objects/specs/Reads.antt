@@ -14,13 +14,13 @@ abbrev pub address_at : Addr → Address
 address_at a = record { processor = a.processor; object = a.object }
 
 -- whether a value may be read from an address, or written to it
-abbrev pub reading : List Shelf → (from : Value Address) → Verdict
+abbrev pub reading : List Shelf → (from : Value Address) → Verdict Address
 reading shelves from = at_object from (Bad NullPointer) (λ a x. read (cell_in shelves a x))
 
-abbrev pub writing : List Shelf → (to : Value Address) → Verdict
+abbrev pub writing : List Shelf → (to : Value Address) → Verdict Address
 writing shelves to = at_object to (Bad NullPointer) (λ a x. writable (cell_in shelves a x))
 
-abbrev pub IsRead : Verdict → Result (Option RustValue) FaultKind → Type 0
+abbrev pub IsRead : Verdict Address → Result (Option RustValue) FaultKind → Type 0
 IsRead verdict (Ok (Some v)) = verdict ≡ Go (value_of v ∷ [])
 IsRead verdict (Ok None) = verdict ≡ Hold
 IsRead verdict (Err kind) = verdict ≡ Bad kind

@@ -1,7 +1,7 @@
 use Rattle.std.proofs.Common.{◌<◌, ◌≤◌, List, length, slice_get, refl, ap, ◌∙◌, arith, sym}
 use Rattle.std.specs.Option.{option_and_then}
-use Rattle.numbered_runs.specs.Machine.{Progress, put_thread, thread_in}
 use Rattle.cc_ops.specs.Shelves.{changed}
+use Rattle.numbered_runs.specs.Machine.{Progress, put_thread, thread_in}
 use Rattle.walk_objects.proofs.Changed.{changed_past, set_changed}
 use Rattle.cc_walk.specs.Views.{progress_of}
 use Rattle.cc_walk.proofs.Places.{found}

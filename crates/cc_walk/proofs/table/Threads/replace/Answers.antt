@@ -1,7 +1,7 @@
 use Rattle.std.proofs.Common.{◌<◌, ◌≤◌, List, length, map, slice_get, refl, ap, ◌∙◌, arith, Some}
 use Rattle.std.proofs.Math.ListN.{length-map}
-use Rattle.numbered_runs.specs.Machine.{Progress}
 use Rattle.cc_ops.specs.Shelves.{changed}
+use Rattle.numbered_runs.specs.Machine.{Progress}
 use Rattle.walk_objects.proofs.Changed.{changed_past, set_mapped}
 use Rattle.cc_walk.specs.Views.{progress_of}
 use Rattle.cc_walk.specs.declared.live.State.{State}

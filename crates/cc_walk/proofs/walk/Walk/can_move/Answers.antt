@@ -1,7 +1,6 @@
 use Rattle.std.proofs.Common.{sym, ap, ◌∙◌}
-use Rattle.std.specs.Prelude.{not}
+use Rattle.std.specs.Prelude.{not, is_some}
 use Rattle.cc_code.specs.Code.{move}
-use Rattle.std.specs.Prelude.{is_some}
 use Rattle.code_thread.specs.View.{ask_of}
 use Rattle.cc_walk.specs.Views.{machine_of, runner_of}
 use Rattle.cc_walk.proofs.MoveLaws.{none_moves, asks_nothing, quiet_stays, ask_moves, join_moves, is_some_value}

@@ -1,7 +1,7 @@
 use Rattle.std.proofs.Common.{◌≡◌, List, length, None, Some, ap, ◌∙◌}
+use Rattle.cc_ops.specs.declared.number.ThreadNo.{ThreadNo}
 use Rattle.stack_code.specs.View.{code_of}
 use Rattle.numbered_runs.specs.Machine.{Machine, Progress, Runner, Goes, thread_in}
-use Rattle.cc_ops.specs.declared.number.ThreadNo.{ThreadNo}
 use Rattle.numbered_runs.specs.Steps.{settle_all, push_all}
 use Rattle.cc_walk.specs.Answered.{inside_after}
 use Rattle.cc_walk.specs.Views.{runner_of, live_of, machine_of}

@@ -1,8 +1,8 @@
 use Rattle.std.proofs.Common.{◌≡◌, ℕ, List, Err, refl, sym, ap, ◌∙◌, subst}
+use Rattle.cc_ops.specs.Shelves.{Shelf}
 use Rattle.cc_code.specs.Code.{move}
 use Rattle.code_thread.specs.View.{ask_of}
 use Rattle.numbered_runs.specs.Machine.{Machine, Progress, thread_in}
-use Rattle.cc_ops.specs.Shelves.{Shelf}
 use Rattle.numbered_runs.specs.Looks.{needs, check_all}
 use Rattle.numbered_runs.specs.Steps.{step, decide, apply, Waits, Faults, Moves}
 use Rattle.cc_walk.specs.Answered.{IsAnswered}

@@ -1,8 +1,8 @@
 use Rattle.std.proofs.Common.{List, ℕ, ◌++◌, Some, sym, ap, ◌∙◌, subst}
 use Rattle.cc_walk.specs.Posted.{AsksFor}
-use Rattle.cc_ops.specs.declared.number.ThreadNo.{ThreadNo}
 use Rattle.std.specs.Str.{bytes_eq}
 use Rattle.rsr_message.specs.Requests.{Spells, version_2}
+use Rattle.cc_ops.specs.declared.number.ThreadNo.{ThreadNo}
 use Rattle.trace_check.proofs.SaidLaws.{is_next}
 use Rattle.trace_check.proofs.replay.Replay.is_next.Goals as goal
 

@@ -1,8 +1,8 @@
 use Rattle.std.proofs.Common.{map, refl, ap, ◌∙◌, arith}
 use Rattle.cc_ops.specs.Machine.{cell_of}
+use Rattle.cc_ops.specs.Shelves.{changed}
 use Rattle.walk_objects.specs.Changes.{with_new}
 use Rattle.walk_objects.proofs.Changed.{set_changed}
-use Rattle.cc_ops.specs.Shelves.{changed}
 use Rattle.walk_objects.proofs.objects.Objects.make.Goals as goal
 
 pub returns-clause-object : goal.returns-clause-object
