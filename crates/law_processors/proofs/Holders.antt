@@ -39,12 +39,13 @@ abbrev pub LocksAfter : Code → Did Processor → Type 0
 LocksAfter code (Went step prints p') = LocksWait code p'
 LocksAfter code (Failed kind t) = Unit {0}
 
-free_holds : (b c d : Bool) (x y : FaultKind)
-    → and_also (Go []) (and_also (if b then Hold else Go []) (and_also (if c then Go [] else Bad x) (and_also (if d then Go [] else Bad y) (Go [])))) ≡ Hold → b ≡ true
+free_holds : (b c d : Bool) (x y : FaultKind) → ◌≡◌ {A = Verdict Address}
+    (and_also (Go []) (and_also (if b then Hold else Go []) (and_also (if c then Go [] else Bad x) (and_also (if d then Go [] else Bad y) (Go []))))) Hold
+    → b ≡ true
 free_holds true c d x y e = refl
-free_holds false true true x y e = let z : Go [] ≡ Hold = e in absurd (cc)
-free_holds false true false x y e = let z : Bad y ≡ Hold = e in absurd (cc)
-free_holds false false d x y e = let z : Bad x ≡ Hold = e in absurd (cc)
+free_holds false true true x y e = cc
+free_holds false true false x y e = cc
+free_holds false false d x y e = cc
 
 held_alone : (q : ℕ) (s : Shelf) (a : Address) (x : ℕ) → a.processor ≡ q → is_held (alone_at q no_shelf s) (Ptr a x) ≡ held_on s a.object
 held_alone q s a x e =
