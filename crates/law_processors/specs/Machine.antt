@@ -1,6 +1,6 @@
 -- The moves of the machine, by any processor and in any order: a processor takes up a thread, moves it, puts it back, or serves what has come; a message is
 -- delivered; a new processor is made.
-use Rattle.std.specs.Prelude.{◌≡◌, ℕ, ◌+◌, List, [], ◌∷◌, ◌++◌, length, slice_get, Bool, true, false, Option, Some, None}
+use Rattle.std.specs.Prelude.{◌≡◌, ℕ, List, [], ◌∷◌, ◌++◌, length, slice_get, Option, Some, None}
 use Rattle.global_ptr.specs.declared.ends.FaultKind.{FaultKind}
 use Rattle.cc_ops.specs.Values.{Value, Cell, Ptr}
 use Rattle.cc_ops.specs.Classes.{construct}
