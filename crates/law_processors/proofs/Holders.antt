@@ -17,11 +17,12 @@ use Rattle.cc_core.specs.Asks as asks
 use Rattle.cc_core.specs.Numbers.{Post, Get, Put, Call, Cast, Make}
 use Rattle.cc_core.specs.Needs.{Verdict, Go, Hold, Bad, and_also}
 use Rattle.cc_code.specs.Code.{Code, Then, Move, Silent, Does, Ends, Stuck, Starting, move}
+use Rattle.numbered_runs.specs.Changes.{with_held, with_thing}
 use Rattle.numbered_runs.specs.Effects.{Effect}
 use Rattle.numbered_runs.specs.Posts.{posted}
 use Rattle.numbered_runs.specs.Steps.{settle}
 use Rattle.numbered_runs.proofs.Lists.{get_in_front}
-use Rattle.law_mesh.specs.Local.{with_held, with_thing, write_on, write_all_on, put_all_on, when, leave_on, held_after_on, place_after, new_here}
+use Rattle.law_mesh.specs.Local.{write_on, write_all_on, put_all_on, when, leave_on, held_after_on, place_after, new_here}
 use Rattle.law_mesh.specs.Moves.{new_fiber, with_value}
 use Rattle.law_processors.specs.Living.{one_lives}
 use Rattle.law_mesh.specs.Spots.{Fiber, verdict, runs}
