@@ -9,10 +9,11 @@ use Rattle.cc_ops.specs.Shelves.{Thing, Shelf, changed, cell_in, put_held, put_t
 use Rattle.cc_core.specs.Core.{Shapes, function_shape}
 use Rattle.cc_code.specs.Code.{Code}
 use Rattle.numbered_runs.specs.Machine.{Progress, Goes, Over}
+use Rattle.numbered_runs.specs.Changes.{with_cell, with_held, with_thing, with_new}
 use Rattle.numbered_runs.specs.Effects.{put_written, write_at, write_value, write_all, put_things, addresses, note_held, leave, leave_all}
 use Rattle.numbered_runs.specs.Steps.{freed}
 use Rattle.numbered_runs.proofs.Lists.{get_changed}
-use Rattle.law_mesh.specs.Local.{with_cell, with_held, with_thing, with_new, cell_on, with_result, with_written, write_on, write_all_on, put_all_on, when, note_on, leave_on, leave_all_on, freed_on, addresses_on, IsOn, AreOn}
+use Rattle.law_mesh.specs.Local.{cell_on, with_result, with_written, write_on, write_all_on, put_all_on, when, note_on, leave_on, leave_all_on, freed_on, addresses_on, IsOn, AreOn}
 
 module _ {X : Type 0} where
   pub changed_same : (xs : List X) (i : ℕ) → changed xs i (λ x. x) ≡ xs

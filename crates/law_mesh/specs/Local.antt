@@ -14,24 +14,13 @@ use Rattle.cc_core.specs.Asks.{ForksAll, ForksOne, Joins, Spawns, Calls, Casts, 
 use Rattle.cc_core.specs.Needs.{at_object}
 use Rattle.cc_code.specs.Code.{Code, Thread, Then}
 use Rattle.numbered_runs.specs.Machine.{Progress, Goes, Over}
+use Rattle.numbered_runs.specs.Changes.{with_cell, with_held, with_thing, with_new}
 use Rattle.numbered_runs.specs.Effects.{Effect}
 use Rattle.numbered_runs.specs.Steps.{settle, numbers_on}
 use Rattle.law_mesh.specs.Moves.{new_spots, known}
 use Rattle.law_mesh.specs.Spots.{Fiber, Spot, Active, runs}
 
 -- ---- changes of the objects of a processor
-
-abbrev pub with_cell : ℕ → Cell Address → Thing → Thing
-with_cell x c t = record { cells = changed t.cells x (λ d. c); held = t.held }
-
-abbrev pub with_held : Bool → Thing → Thing
-with_held held t = record { cells = t.cells; held = held }
-
-abbrev pub with_thing : ℕ → (Thing → Thing) → Shelf → Shelf
-with_thing o f s = record { things = changed s.things o f; slots = s.slots }
-
-abbrev pub with_new : List (Cell Address) → Shelf → Shelf
-with_new cells s = record { things = s.things ++ record { cells = cells; held = false } ∷ []; slots = s.slots + length cells }
 
 abbrev pub cell_on : Shelf → (object x : ℕ) → Option (Cell Address)
 cell_on s o x = option_and_then (λ (t : Thing). slice_get t.cells x) (slice_get s.things o)

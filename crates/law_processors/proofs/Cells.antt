@@ -18,9 +18,10 @@ use Rattle.cc_core.specs.Numbers.{Post, Get, Put, Call, Cast, Make}
 use Rattle.cc_core.specs.Needs.{Verdict, Go, Hold, Bad, and_also, read}
 use Rattle.cc_code.specs.Code.{Code, Thread, Then, Move, Silent, Does, Ends, Stuck, move}
 use Rattle.numbered_runs.specs.Machine.{Progress, Goes as GoesAhead, Over}
+use Rattle.numbered_runs.specs.Changes.{with_cell, with_held, with_thing, with_new}
 use Rattle.numbered_runs.specs.Posts.{posted}
 use Rattle.numbered_runs.proofs.Lists.{get_unchanged}
-use Rattle.law_mesh.specs.Local.{cell_on, with_cell, with_held, with_thing, with_new, with_result, with_written, write_on, write_all_on, put_all_on, when, note_on, leave_on, leave_all_on, held_after_on, freed_on, place_after, new_here}
+use Rattle.law_mesh.specs.Local.{cell_on, with_result, with_written, write_on, write_all_on, put_all_on, when, note_on, leave_on, leave_all_on, held_after_on, freed_on, place_after, new_here}
 use Rattle.law_processors.specs.Living.{one_lives, joins_of}
 use Rattle.law_mesh.specs.Spots.{Fiber, verdict}
 use Rattle.law_mesh.specs.Queues.{Message, Asks, Answers, holds, holds_none}

@@ -12,8 +12,9 @@ use Rattle.cc_ops.specs.Shelves.{Thing, Shelf, changed}
 use Rattle.cc_core.specs.Core.{Shapes}
 use Rattle.cc_code.specs.Code.{Code, Thread, move}
 use Rattle.numbered_runs.specs.Machine.{Progress, Goes as GoesAhead, Over}
+use Rattle.numbered_runs.specs.Changes.{with_cell, with_held, with_thing, with_new}
 use Rattle.numbered_runs.proofs.Lists.{get_unchanged, get_in_front}
-use Rattle.law_mesh.specs.Local.{with_cell, with_held, with_thing, with_new, cell_on, with_result, with_written, write_on, write_all_on, put_all_on, when, note_on, leave_all_on, freed_on}
+use Rattle.law_mesh.specs.Local.{cell_on, with_result, with_written, write_on, write_all_on, put_all_on, when, note_on, leave_all_on, freed_on}
 use Rattle.law_mesh.specs.Moves.{new_fiber}
 use Rattle.law_processors.specs.Living.{one_lives, joins_of}
 use Rattle.law_mesh.specs.Spots.{Fiber}

@@ -17,11 +17,12 @@ use Rattle.cc_core.specs.Asks as asks
 use Rattle.cc_core.specs.Numbers.{Post, Get, Put, Call, Cast, Make}
 use Rattle.cc_core.specs.Needs.{Verdict, Go, Hold, Bad, and_also}
 use Rattle.cc_code.specs.Code.{Code, Then, Move, Silent, Does, Ends, Stuck, Starting, move}
+use Rattle.numbered_runs.specs.Changes.{with_held, with_thing}
 use Rattle.numbered_runs.specs.Effects.{Effect}
 use Rattle.numbered_runs.specs.Posts.{posted}
 use Rattle.numbered_runs.specs.Steps.{settle}
 use Rattle.numbered_runs.proofs.Lists.{get_in_front}
-use Rattle.law_mesh.specs.Local.{with_held, with_thing, write_on, write_all_on, put_all_on, when, leave_on, held_after_on, place_after, new_here}
+use Rattle.law_mesh.specs.Local.{write_on, write_all_on, put_all_on, when, leave_on, held_after_on, place_after, new_here}
 use Rattle.law_mesh.specs.Moves.{new_fiber, with_value}
 use Rattle.law_processors.specs.Living.{one_lives}
 use Rattle.law_mesh.specs.Spots.{Fiber, verdict, runs}
@@ -39,12 +40,13 @@ abbrev pub LocksAfter : Code → Did Processor → Type 0
 LocksAfter code (Went step prints p') = LocksWait code p'
 LocksAfter code (Failed kind t) = Unit {0}
 
-free_holds : (b c d : Bool) (x y : FaultKind)
-    → and_also (Go []) (and_also (if b then Hold else Go []) (and_also (if c then Go [] else Bad x) (and_also (if d then Go [] else Bad y) (Go [])))) ≡ Hold → b ≡ true
+free_holds : (b c d : Bool) (x y : FaultKind) → ◌≡◌ {A = Verdict Address}
+    (and_also (Go []) (and_also (if b then Hold else Go []) (and_also (if c then Go [] else Bad x) (and_also (if d then Go [] else Bad y) (Go []))))) Hold
+    → b ≡ true
 free_holds true c d x y e = refl
-free_holds false true true x y e = let z : Go [] ≡ Hold = e in absurd (cc)
-free_holds false true false x y e = let z : Bad y ≡ Hold = e in absurd (cc)
-free_holds false false d x y e = let z : Bad x ≡ Hold = e in absurd (cc)
+free_holds false true true x y e = cc
+free_holds false true false x y e = cc
+free_holds false false d x y e = cc
 
 held_alone : (q : ℕ) (s : Shelf) (a : Address) (x : ℕ) → a.processor ≡ q → is_held (alone_at q no_shelf s) (Ptr a x) ≡ held_on s a.object
 held_alone q s a x e =

@@ -17,9 +17,9 @@ use Rattle.cc_core.specs.Effects.{constructed}
 use Rattle.cc_code.specs.Code.{Code, Then, Does, move}
 use Rattle.code_names.specs.Same.{Pairwise}
 use Rattle.numbered_runs.proofs.Lists.{get_last, both_found, pairwise_push}
+use Rattle.numbered_runs.specs.Changes.{with_new}
 use Rattle.law_mesh.specs.Spots.{Fiber, Spot, Posted, Answered, Calling, Mesh, item_in, put_item, verdict}
 use Rattle.law_mesh.specs.Moves.{Serves, served_step, Asking as AskingAt, FaultsAt, ServedBadly, served}
-use Rattle.law_mesh.specs.Local.{with_new}
 use Rattle.law_mesh.specs.Queues.{Hand, Ready, OfCell, OfLock, Inbox, Outbox, Makes, Message, Asks, Answers, Item, Mail, Queues, Hold as HoldLists, FitsAt, AsksBy, holds_none}
 use Rattle.law_processors.specs.Processors.{Goes, Joins, Asking, Has, Entry, Lives, Ended, Processor, Processors, IsEntry, caller_of, lists, of_processor, shelves_of, tables_of, Runs, with_processor, printing}
 use Rattle.law_processors.specs.Alone.{Did, Went, Failed, nobody}

@@ -11,12 +11,12 @@ use Rattle.cc_core.specs.Needs.{Verdict, Go, Hold, Bad}
 use Rattle.cc_code.specs.Code.{Code, Then, Move, Silent, Does, Ends, Stuck, move}
 use Rattle.numbered_runs.specs.Posts.{posted}
 use Rattle.law_mesh.specs.Spots.{Fiber, Mesh, verdict}
-use Rattle.law_mesh.specs.Queues.{Queue, Item, Mail, Message, Asks, Answers, Inbox, Ready, OfCell, target, holds_none}
+use Rattle.law_mesh.specs.Queues.{Mail, Message, Asks, Answers, Inbox, Ready, OfCell, target, holds_none}
 use Rattle.law_mesh.proofs.Queues.{IsAsking, IsDelayed, IsPosted, asking_is}
-use Rattle.law_processors.specs.Processors.{Waiter, Asked, Stage, Goes, Joins, Asking, Has, Entry, Lives, Ended, Processor, Processors, Runs, lists, waiter_item}
-use Rattle.law_processors.specs.Alone.{Label, OwnStep, ServedStep, Did, Went, Failed, asks_here, asks_null, is_taken, goes_into, enters_later, seen, send}
-use Rattle.law_processors.specs.Alone.{effect_here, stepped_here, may_step, decided, asks_itself, asks_by, moves_by, entry_moves, hand_moves, moved}
-use Rattle.law_processors.specs.Alone.{put_hand, put_entry, nobody, ask_of, served_so, serves, told, serves_inbox, served}
+use Rattle.law_processors.specs.Processors.{Waiter, Asked, Goes, Joins, Asking, Has, Entry, Lives, Ended, Processor, Processors, Runs, lists, waiter_item}
+use Rattle.law_processors.specs.Alone.{Label, OwnStep, Did, Went, Failed, asks_here, asks_null, is_taken, goes_into, enters_later, seen, send}
+use Rattle.law_processors.specs.Alone.{effect_here, stepped_here, may_step, decided, asks_itself, asks_by, moves_by, entry_moves, hand_moves}
+use Rattle.law_processors.specs.Alone.{put_hand, put_entry, served_so, serves, told, serves_inbox}
 use Rattle.law_processors.specs.Machine.{without_ready, seen_by_makes, makes_so, makes_first, made, Moves, TakesUp, PutsBack, MovesOn, ServesFirst, ServesWoken, Delivers}
 use Rattle.law_processors.specs.Machine as machine
 use Rattle.law_processors.specs.Follow.{IsPlaced}

@@ -1,14 +1,14 @@
 -- At rest no object is held, and no thread waits for one, where atomic functions always go on.
 use Rattle.cc_core.specs.Numbers.{first_numbers}
 use Rattle.law_processors.specs.Alone.{Label}
-use Rattle.std.proofs.Common.{◌≡◌, ◌⊎◌, ⊎_elim, ◌<◌, ℕ, List, [], length, Bool, true, false, Option, Some, None, refl, sym, ap, subst, ◌∙◌}
+use Rattle.std.proofs.Common.{◌≡◌, ⊎_elim, ◌<◌, ℕ, List, length, true, false, Option, Some, None, refl, sym, ap, subst, ◌∙◌}
 use Rattle.std.specs.FinMap as fin
 use Rattle.std.specs.Option.{option_map_or}
 use Rattle.std.specs.Prelude.{ℤ, slice_get}
 use Rattle.std.proofs.lemmas.Option.{none-some}
 use Rattle.std.proofs.lemmas.Bool.{false≢true}
 use Rattle.cc_ops.specs.Values.{Ptr}
-use Rattle.cc_ops.specs.Shelves.{Thing, Shelf}
+use Rattle.cc_ops.specs.Shelves.{Thing}
 use Rattle.cc_core.specs.Core.{Program, function, shapes}
 use Rattle.cc_core.specs.Source.{IsProgram}
 use Rattle.cc_core.specs.Steps as core

@@ -23,11 +23,12 @@ use Rattle.cc_core.specs.Source.{IsProgram}
 use Rattle.cc_core.specs.Steps as core
 use Rattle.cc_core.specs.Effects.{cells_with}
 use Rattle.cc_code.specs.Layout.{layout}
+use Rattle.numbered_runs.specs.Changes.{with_new}
 use Rattle.numbered_runs.specs.Alike.{ints}
 use Rattle.numbered_runs.specs.Effects.{parameters, put_things}
 use Rattle.numbered_runs.specs.Stands.{IsThread}
 use Rattle.law_mesh.specs.Begins.{first_fiber, first_mesh}
-use Rattle.law_mesh.specs.Local.{put_all_on, with_new}
+use Rattle.law_mesh.specs.Local.{put_all_on}
 use Rattle.law_mesh.specs.Moves.{FaultsAt}
 use Rattle.law_mesh.specs.Queues.{Hand, Ready, OfCell, OfLock, Inbox, Outbox, Makes, Itself, Hold, FitsAt, pushed}
 use Rattle.law_processors.specs.Processors.{Own, Goes, Entry, Lives, Processor, Processors, lists, caller_of, Runs, with_processor, printing}

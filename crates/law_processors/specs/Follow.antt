@@ -1,5 +1,5 @@
 -- Runs of the mesh, and what a move of the machine is of the mesh that it shows.
-use Rattle.std.specs.Prelude.{◌≡◌, ℕ, List, [], ◌∷◌, ◌++◌, map, Option, Some, None}
+use Rattle.std.specs.Prelude.{◌≡◌, List, [], ◌∷◌, ◌++◌, Option, Some, None}
 use Rattle.law_mesh.specs.Spots.{Mesh}
 use Rattle.law_mesh.specs.Moves.{Moves, Step, own_step, served_step}
 use Rattle.law_mesh.specs.Queues.{target}

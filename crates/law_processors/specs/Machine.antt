@@ -1,6 +1,6 @@
 -- The moves of the machine, by any processor and in any order: a processor takes up a thread, moves it, puts it back, or serves what has come; a message is
 -- delivered; a new processor is made.
-use Rattle.std.specs.Prelude.{◌≡◌, ℕ, ◌+◌, List, [], ◌∷◌, ◌++◌, length, slice_get, Bool, true, false, Option, Some, None}
+use Rattle.std.specs.Prelude.{◌≡◌, ℕ, List, [], ◌∷◌, ◌++◌, length, slice_get, Option, Some, None}
 use Rattle.global_ptr.specs.declared.ends.FaultKind.{FaultKind}
 use Rattle.cc_ops.specs.Values.{Value, Cell, Ptr}
 use Rattle.cc_ops.specs.Classes.{construct}
@@ -13,8 +13,8 @@ use Rattle.cc_core.specs.Numbers.{Post, Make}
 use Rattle.cc_core.specs.Needs.{Verdict, Go, Hold, Bad}
 use Rattle.cc_core.specs.Effects.{constructed}
 use Rattle.cc_code.specs.Code.{Move, Silent, Does, Ends, Stuck, move}
+use Rattle.numbered_runs.specs.Changes.{with_new}
 use Rattle.law_mesh.specs.Spots.{Mesh, verdict, item_in}
-use Rattle.law_mesh.specs.Local.{with_new}
 use Rattle.law_mesh.specs.Queues.{Message, Asks, Answers, target}
 use Rattle.law_processors.specs.Processors.{Waiter, Own, Asked, Entry, Lives, Ended, Processor, Processors, with_processor, printing, shelves_of, tables_of}
 use Rattle.law_processors.specs.Alone.{Label, ServedStep, Did, Went, Failed, unmoved, send, nobody, moved, served, serves}

@@ -1,5 +1,5 @@
 -- Where the machine begins, and what it stands for in the run of a program.
-use Rattle.std.specs.Prelude.{◌≡◌, ℕ, List, [], ◌∷◌, length, map, None, ℤ}
+use Rattle.std.specs.Prelude.{◌≡◌, List, [], ◌∷◌, length, map, None, ℤ}
 use Rattle.std.specs.List.{AllByRecursion}
 use Rattle.cc_ops.specs.Shelves.{no_shelf}
 use Rattle.cc_core.specs.Config.{Config}

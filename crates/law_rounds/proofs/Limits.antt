@@ -106,12 +106,12 @@ settles_so _ m _ _ (Fails {d = d} {m1 = m1} {notes = notes} {kind = kind} {t = t
 
 -- ---- a Make that waits
 
-never_makes : (a b : Bool) (x y : FaultKind) (r : Result (List (Cell Address)))
-    → and_also (if a then Go [] else Bad x) (and_also (if b then Go [] else Bad y) (and_also (of_result r (λ cells. [])) (Go []))) ≡ Hold → ⊥
-never_makes true true x y (Gives cells) e = let d : Go [] ≡ Hold = e in cc
-never_makes true true x y (Fails kind) e = let d : Bad kind ≡ Hold = e in cc
-never_makes true false x y r e = let d : Bad y ≡ Hold = e in cc
-never_makes false b x y r e = let d : Bad x ≡ Hold = e in cc
+never_makes : (a b : Bool) (x y : FaultKind) (r : Result (List (Cell Address))) → ◌≡◌ {A = Verdict Address}
+    (and_also (if a then Go [] else Bad x) (and_also (if b then Go [] else Bad y) (and_also (of_result r (λ cells. [])) (Go [])))) Hold → ⊥
+never_makes true true x y (Gives cells) e = cc
+never_makes true true x y (Fails kind) e = cc
+never_makes true false x y r e = cc
+never_makes false b x y r e = cc
 
 module _ (m : Processors) (n : Mesh) (runs : Runs m n) where
   make_goes : (t : ThreadNo) (c : ℕ) (vs : Values) (rest : List Message) → m.makes ≡ Asks t (Make c vs) ∷ rest → CanGo m

@@ -1,5 +1,6 @@
 pub mod Machine
 pub mod Looks
+pub mod Changes
 pub mod Effects
 pub mod Steps
 pub mod Posts

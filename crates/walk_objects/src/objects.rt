@@ -2,7 +2,7 @@ ghost use Rattle.std.specs.Prelude.{◌≡◌, ◌++◌, ◌∷◌, [], length, 
 ghost use Rattle.std.specs.Option.{option_map};
 ghost use Rattle.cc_ops.specs.Machine.{value_of, cell_of};
 ghost use Rattle.cc_ops.specs.Shelves.{cell_in, slots_in, is_held, put_cell, put_held, put_thing, no_shelf, next_address};
-ghost use Rattle.walk_objects.specs.Changes.{with_cell, with_held, with_thing, with_new};
+ghost use Rattle.numbered_runs.specs.Changes.{with_cell, with_held, with_thing, with_new};
 ghost use Rattle.walk_objects.specs.Reads.{address_at, reading, IsRead, IsWritten};
 
 use cc_ops::Cell;

@@ -4,7 +4,7 @@ use Rattle.cc_ops.specs.Values.{Cell as CellOf}
 use Rattle.cc_ops.specs.Machine.{Address, cell_of}
 use Rattle.cc_ops.specs.declared.cell.Cell.{Cell}
 use Rattle.cc_ops.specs.Shelves.{Thing}
-use Rattle.walk_objects.specs.Changes.{with_cell}
+use Rattle.numbered_runs.specs.Changes.{with_cell}
 use Rattle.walk_objects.proofs.Changed.{set_mapped, changed_past}
 use Rattle.walk_objects.proofs.objects.Object.put.Goals as goal
 

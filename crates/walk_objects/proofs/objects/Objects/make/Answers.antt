@@ -1,7 +1,7 @@
 use Rattle.std.proofs.Common.{map, refl, ap, ◌∙◌, arith}
 use Rattle.cc_ops.specs.Machine.{cell_of}
 use Rattle.cc_ops.specs.Shelves.{changed}
-use Rattle.walk_objects.specs.Changes.{with_new}
+use Rattle.numbered_runs.specs.Changes.{with_new}
 use Rattle.walk_objects.proofs.Changed.{set_changed}
 use Rattle.walk_objects.proofs.objects.Objects.make.Goals as goal
 

@@ -1,7 +1,7 @@
 use Rattle.std.proofs.Common.{refl, ap, ◌∙◌, arith}
 use Rattle.cc_ops.specs.Machine.{cell_of}
 use Rattle.cc_ops.specs.Shelves.{changed}
-use Rattle.walk_objects.specs.Changes.{with_cell, with_thing}
+use Rattle.numbered_runs.specs.Changes.{with_cell, with_thing}
 use Rattle.walk_objects.specs.contracts.objects.Objects.{the_view}
 use Rattle.walk_objects.proofs.Changed.{set_changed, changed_past}
 use Rattle.walk_objects.proofs.objects.Objects.put.Goals as goal

@@ -1,6 +1,6 @@
 use Rattle.std.proofs.Common.{refl, ap, ◌∙◌, arith}
 use Rattle.cc_ops.specs.Shelves.{changed}
-use Rattle.walk_objects.specs.Changes.{with_held, with_thing}
+use Rattle.numbered_runs.specs.Changes.{with_held, with_thing}
 use Rattle.walk_objects.specs.contracts.objects.Objects.{the_view}
 use Rattle.walk_objects.proofs.Changed.{set_changed, changed_past}
 use Rattle.walk_objects.proofs.objects.Objects.set_held.Goals as goal

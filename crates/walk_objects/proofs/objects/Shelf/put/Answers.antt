@@ -2,7 +2,7 @@ use Rattle.std.proofs.Common.{refl, ap, ◌∙◌, arith}
 use Rattle.cc_ops.specs.Machine.{cell_of}
 use Rattle.walk_objects.proofs.objects.Shelf.put.Goals as goal
 use Rattle.walk_objects.proofs.objects.Shelf.put.Goals.{in-Some, in_default}
-use Rattle.walk_objects.specs.Changes.{with_cell, with_thing}
+use Rattle.numbered_runs.specs.Changes.{with_cell, with_thing}
 use Rattle.walk_objects.specs.contracts.objects.Shelf.{the_view}
 use Rattle.walk_objects.proofs.Changed.{set_changed, changed_past}
 

@@ -1,5 +1,5 @@
 use Rattle.std.proofs.Common.{refl, ap, ◌∙◌, arith}
-use Rattle.walk_objects.specs.Changes.{with_held, with_thing}
+use Rattle.numbered_runs.specs.Changes.{with_held, with_thing}
 use Rattle.walk_objects.specs.contracts.objects.Object.{the_view as shown}
 use Rattle.walk_objects.specs.contracts.objects.Shelf.{the_view}
 use Rattle.walk_objects.proofs.Changed.{set_changed, changed_past}
