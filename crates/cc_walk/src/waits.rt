@@ -1,8 +1,8 @@
 ghost use Rattle.std.specs.Prelude.{◌≡◌, ℕ, List, ◌&&◌, not, is_some, reverse, drop};
 ghost use Rattle.cc_ops.specs.Machine.{value_of};
+ghost use Rattle.cc_ops.specs.Shelves as shelves;
 ghost use Rattle.cc_core.specs.Core.{function_shape};
 ghost use Rattle.code_thread.specs.View.{ask_of};
-ghost use Rattle.numbered_runs.specs.Machine as machine;
 ghost use Rattle.numbered_runs.specs.Looks.{needs, check_all, has_ended, all_ended};
 ghost use Rattle.walk_objects.specs.Reads.{reading};
 ghost use Rattle.cc_walk.specs.Asker.{machine_with, shapes_of};
@@ -47,7 +47,7 @@ impl Asker<'_> {
 
     /// Whether a function is atomic and a thread is inside an atomic function of the object already.
     fn is_held(&self, objects: &Objects, function: u32, object: Value) -> bool
-        ensures { result ≡ ((function_shape (shapes_of self.now) function).atomic && machine.is_held objects.now (value_of object)) }
+        ensures { result ≡ ((function_shape (shapes_of self.now) function).atomic && shelves.is_held objects.now (value_of object)) }
     {
         is_atomic(self.code, function) && objects.is_held(object)
     }
