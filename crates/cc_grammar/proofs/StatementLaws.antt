@@ -1,10 +1,13 @@
 -- Each symbol of statements is read exactly.
 use Rattle.std.proofs.Common.{◌≡◌, ℕ, zero, suc, pred, true, false, List, [], ◌∷◌, ◌++◌, Some, None, inl, inr, refl}
 use Rattle.cc_lexer.specs.declared.token.TokenKind.TheVariants as k
-use Rattle.cc_lexer.specs.declared.token.Keyword.TheVariants.{Cout, Endl, If, Else, While, For, Par, Parfor, Spawn, Return, Int}
+use Rattle.cc_lexer.specs.declared.token.Keyword.{Keyword}
+use Rattle.cc_lexer.specs.declared.token.Keyword.TheVariants.{Cout, Endl, If, Else, While, For, Par, Parfor, Spawn, Return, Break, Continue, Int}
 use Rattle.cc_lexer.specs.declared.token.Mark.TheVariants as m
 use Rattle.cc_tree.specs.declared.expressions.Expr.{Expr}
 use Rattle.cc_tree.specs.declared.statements.Stmt.{Stmt}
+use Rattle.cc_tree.specs.declared.statements.StmtKind.{StmtKind}
+use Rattle.cc_tree.specs.declared.statements.StmtKind.TheVariants as s
 use Rattle.cc_grammar.specs.declared.parts.Block.{Block}
 use Rattle.cc_grammar.specs.Lexeme.{Lexeme, Lexemes}
 use Rattle.cc_grammar.specs.Kinds.{Kinds, kinds}
@@ -132,6 +135,13 @@ returned : (n : ℕ) → Reads n (r.returned (pred n)) (r.returned n) (g.returne
 unfolding r.returned g.returned
 returned n = seq (word Return) (λ line. seq (maybe_expr n) (λ x. seq (mark m.Semicolon) (λ _. pure _) refl) refl) refl
 
+jump_by : {n : ℕ} (w : Keyword) (kind : StmtKind) → Reads n (r.jump_by w kind) (r.jump_by w kind) (g.jump_by w kind) (at_word w) [] false
+jump_by w kind = seq (word w) (λ line. seq (mark m.Semicolon) (λ _. pure _) refl) refl
+
+jump : {n : ℕ} → Reads n r.jump r.jump g.jump (at_word Break ++ at_word Continue) [] false
+unfolding r.jump g.jump
+jump = either (jump_by Break s.Break) (jump_by Continue s.Continue) refl
+
 -- from what stands within them
 module _ (n : ℕ) (o p : Reader Stmt) (s : Symbol Stmt) (inner : IsPositive n → Reads (pred n) o p s first_stmt [] false) (inner_follows : IsPositive n → Follows seconds s) (inner_name : IsPositive n → MayBeName s) where
   entry : IsPositive n → Reads (pred n) (r.entry (pred n) o) (r.entry n p) (g.entry n s) first_entry [] false
@@ -179,7 +189,7 @@ module _ (n : ℕ) (o p : Reader Stmt) (s : Symbol Stmt) (inner : IsPositive n �
   unfolding r.stmt_line r.word_stmt g.stmt_line
   stmt_line =
       declared _ _ (either block_stmt (either empty (either (plain n)
-      (either (print n) (either choice (either loop (either for_loop (either parallel (either parallel_for (either (spawned n) (returned n) refl) refl) refl) refl) refl) refl) refl) refl) refl) refl) refl refl
+      (either (print n) (either choice (either loop (either for_loop (either parallel (either parallel_for (either (spawned n) (either (returned n) jump refl) refl) refl) refl) refl) refl) refl) refl) refl) refl) refl) refl refl
 
   line_follows : Follows seconds (g.stmt_line n s)
   unfolding g.stmt_line g.plain
@@ -193,7 +203,8 @@ module _ (n : ℕ) (o p : Reader Stmt) (s : Symbol Stmt) (inner : IsPositive n �
       (follows_or (follows_other for_loop refl)
       (follows_or (follows_other parallel refl)
       (follows_or (follows_other parallel_for refl)
-      (follows_or (follows_other (spawned n) refl) (follows_other (returned n) refl))))))))))
+      (follows_or (follows_other (spawned n) refl)
+      (follows_or (follows_other (returned n) refl) (follows_other (jump {n = n}) refl)))))))))))
 
   line_name : MayBeName (g.stmt_line n s)
   unfolding g.stmt_line g.plain

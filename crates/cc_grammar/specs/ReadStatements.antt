@@ -1,7 +1,8 @@
 -- Reading statements.
 use Rattle.std.specs.Prelude.{ℕ, zero, suc, pred, Bool, true, List, [], ◌∷◌, ◌++◌, Option, Some, None}
 use Rattle.cc_lexer.specs.declared.token.TokenKind.TheVariants as k
-use Rattle.cc_lexer.specs.declared.token.Keyword.TheVariants.{Cout, Endl, If, Else, While, For, Par, Parfor, Spawn, Return, Int}
+use Rattle.cc_lexer.specs.declared.token.Keyword.{Keyword}
+use Rattle.cc_lexer.specs.declared.token.Keyword.TheVariants.{Cout, Endl, If, Else, While, For, Par, Parfor, Spawn, Return, Break, Continue, Int}
 use Rattle.cc_lexer.specs.declared.token.Mark.{Mark}
 use Rattle.cc_lexer.specs.declared.token.Mark.TheVariants as m
 use Rattle.cc_tree.specs.declared.expressions.Expr.{Expr}
@@ -10,6 +11,7 @@ use Rattle.cc_tree.specs.declared.statements.AssignOp.TheVariants as assign_op
 use Rattle.cc_tree.specs.declared.statements.PrintItem.{PrintItem}
 use Rattle.cc_tree.specs.declared.statements.PrintItem.TheVariants as print_item
 use Rattle.cc_tree.specs.declared.statements.Stmt.{Stmt}
+use Rattle.cc_tree.specs.declared.statements.StmtKind.{StmtKind}
 use Rattle.cc_tree.specs.declared.statements.StmtKind.TheVariants as s
 use Rattle.cc_grammar.specs.declared.parts.Name.{Name}
 use Rattle.cc_grammar.specs.declared.parts.Block.{Block}
@@ -37,7 +39,7 @@ abbrev pub first_stmt : Kinds
 first_stmt =
     kinds (
     k.Mark m.OpenBrace ∷ k.Mark m.Semicolon ∷ k.Word Cout ∷ k.Word If ∷ k.Word While ∷ k.Word For ∷ k.Word Par ∷ k.Word Parfor ∷ k.Word Spawn
-    ∷ k.Word Return ∷ []
+    ∷ k.Word Return ∷ k.Word Break ∷ k.Word Continue ∷ []
     )
     ++ first_simple
 
@@ -240,6 +242,15 @@ returned n = do
   mark m.Semicolon
   pure (stated (s.Return x) line)
 
+abbrev pub jump_by : Keyword → StmtKind → Reader Stmt
+jump_by w kind = do
+  line ← word w
+  mark m.Semicolon
+  pure (stated kind line)
+
+unfoldable pub jump : Reader Stmt
+jump = choose (at_word Break) (jump_by Break s.Break) (jump_by Continue s.Continue)
+
 module _ (n : ℕ) (stmt : Reader Stmt) where
   unfoldable pub decl_entry : Reader (List Stmt)
   decl_entry = do
@@ -334,7 +345,8 @@ module _ (n : ℕ) (stmt : Reader Stmt) where
       (choose (at_word For) for_loop
       (choose (at_word Par) parallel
       (choose (at_word Parfor) parallel_for
-      (choose (at_word Spawn) (spawned n) (returned n)))))))
+      (choose (at_word Spawn) (spawned n)
+      (choose (at_word Return) (returned n) jump)))))))
 
   unfoldable pub stmt_line : Reader Stmt
   stmt_line = choose (at_mark m.OpenBrace) block_stmt (choose (at_mark m.Semicolon) empty (choose first_simple (plain n) word_stmt))

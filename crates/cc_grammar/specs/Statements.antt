@@ -4,7 +4,8 @@
 -- level fewer, which the lines name `stmt`.
 use Rattle.std.specs.Prelude.{ℕ, zero, suc, pred, List, [], ◌∷◌, Option, Some, None}
 use Rattle.cc_lexer.specs.declared.token.TokenKind.TheVariants.{Word}
-use Rattle.cc_lexer.specs.declared.token.Keyword.TheVariants.{Cout, Endl, If, Else, While, For, Par, Parfor, Spawn, Return, Int}
+use Rattle.cc_lexer.specs.declared.token.Keyword.{Keyword}
+use Rattle.cc_lexer.specs.declared.token.Keyword.TheVariants.{Cout, Endl, If, Else, While, For, Par, Parfor, Spawn, Return, Break, Continue, Int}
 use Rattle.cc_lexer.specs.declared.token.Mark.TheVariants as m
 use Rattle.cc_tree.specs.declared.expressions.Expr.{Expr}
 use Rattle.cc_tree.specs.declared.statements.AssignOp.{AssignOp}
@@ -12,6 +13,7 @@ use Rattle.cc_tree.specs.declared.statements.AssignOp.TheVariants as assign_op
 use Rattle.cc_tree.specs.declared.statements.PrintItem.{PrintItem}
 use Rattle.cc_tree.specs.declared.statements.PrintItem.TheVariants as print_item
 use Rattle.cc_tree.specs.declared.statements.Stmt.{Stmt}
+use Rattle.cc_tree.specs.declared.statements.StmtKind.{StmtKind}
 use Rattle.cc_tree.specs.declared.statements.StmtKind.TheVariants as s
 use Rattle.cc_lexer.specs.declared.token.Mark.{Mark}
 use Rattle.cc_grammar.specs.declared.parts.Block.{Block}
@@ -144,6 +146,16 @@ returned n = do
   mark m.Semicolon
   pure (stated (s.Return x) line)
 
+abbrev pub jump_by : Keyword → StmtKind → Symbol Stmt
+jump_by w kind = do
+  line ← word w
+  mark m.Semicolon
+  pure (stated kind line)
+
+-- 'break' ';' | 'continue' ';'
+unfoldable pub jump : Symbol Stmt
+jump = jump_by Break s.Break or jump_by Continue s.Continue
+
 module _ (n : ℕ) (stmt : Symbol Stmt) where
   -- Decl ';' | Stmt
   unfoldable pub entry : Symbol (List Stmt)
@@ -223,6 +235,8 @@ module _ (n : ℕ) (stmt : Symbol Stmt) where
   --       | 'parfor' '(' 'int' NAME '=' Expr ';' Expr ';' Simple ')' Stmt
   --       | 'spawn' Call ';'
   --       | 'return' [ Expr ] ';'
+  --       | 'break' ';'
+  --       | 'continue' ';'
   unfoldable pub stmt_line : Symbol Stmt
   stmt_line =
       block_stmt
@@ -236,6 +250,7 @@ module _ (n : ℕ) (stmt : Symbol Stmt) where
       or parallel_for
       or spawned n
       or returned n
+      or jump
 
 -- ---- within so many levels
 

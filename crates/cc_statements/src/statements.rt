@@ -10,12 +10,12 @@ use cc_declarations::{begins_decl, decl};
 use cc_expressions::{Cursor, Terms, flat, many, with_front};
 use cc_grammar::{Block, Counter, Fault, Header};
 use cc_lexer::{Keyword, Mark, TokenKind};
-use cc_simple_statements::{begins_simple, empty, ended_by, plain, print, returned, spawned};
+use cc_simple_statements::{begins_simple, empty, ended_by, jump, plain, print, returned, spawned};
 use cc_tree::{Stmt, StmtKind};
 use ccpp_edge::{Boxed, List};
 
 /// What a statement begins with.
-const FIRST_STMT: [TokenKind; 16] = [
+const FIRST_STMT: [TokenKind; 18] = [
     TokenKind::Mark(Mark::OpenBrace),
     TokenKind::Mark(Mark::Semicolon),
     TokenKind::Word(Keyword::Cout),
@@ -26,6 +26,8 @@ const FIRST_STMT: [TokenKind; 16] = [
     TokenKind::Word(Keyword::Parfor),
     TokenKind::Word(Keyword::Spawn),
     TokenKind::Word(Keyword::Return),
+    TokenKind::Word(Keyword::Break),
+    TokenKind::Word(Keyword::Continue),
     TokenKind::Mark(Mark::PlusPlus),
     TokenKind::Mark(Mark::MinusMinus),
     TokenKind::Mark(Mark::Star),
@@ -35,7 +37,7 @@ const FIRST_STMT: [TokenKind; 16] = [
 ];
 
 /// What an entry of a block begins with: a declaration or a statement.
-const FIRST_ENTRY: [TokenKind; 19] = [
+const FIRST_ENTRY: [TokenKind; 21] = [
     TokenKind::Word(Keyword::Int),
     TokenKind::Word(Keyword::Sync),
     TokenKind::Word(Keyword::Void),
@@ -49,6 +51,8 @@ const FIRST_ENTRY: [TokenKind; 19] = [
     TokenKind::Word(Keyword::Parfor),
     TokenKind::Word(Keyword::Spawn),
     TokenKind::Word(Keyword::Return),
+    TokenKind::Word(Keyword::Break),
+    TokenKind::Word(Keyword::Continue),
     TokenKind::Mark(Mark::PlusPlus),
     TokenKind::Mark(Mark::MinusMinus),
     TokenKind::Mark(Mark::Star),
@@ -310,7 +314,10 @@ impl<F: Fn(Terms, &mut Cursor<'_>) -> Result<Stmt, Fault>> Statements<F> {
         if tokens.at_word(Keyword::Spawn) {
             return spawned(self.terms, tokens);
         }
-        returned(self.terms, tokens)
+        if tokens.at_word(Keyword::Return) {
+            return returned(self.terms, tokens);
+        }
+        jump(tokens)
     }
 
     /// A statement.

@@ -9,7 +9,7 @@ use Rattle.cc_grammar.specs.Nodes.{stated, assigned, called, declared, joined, o
 use Rattle.cc_grammar.specs.Program.{program, Spells}
 use Rattle.cc_grammar.specs.Statements.{test as test_rule, simple as simple_rule, out as out_rule, print as print_rule, beginning as beginning_rule, maybe_beginning as maybe_beginning_rule, header as header_rule, counter as counter_rule, entry as entry_rule}
 use Rattle.cc_grammar.specs.Statements.{entries as entries_rule, block as block_rule, block_stmt as block_stmt_rule, otherwise as otherwise_rule, choice as choice_rule, loop as loop_rule, for_loop as for_loop_rule, parallel as parallel_rule}
-use Rattle.cc_grammar.specs.Statements.{parallel_for as parallel_for_rule, empty as empty_rule, plain as plain_rule, spawned as spawned_rule, returned as returned_rule, stmt_line as stmt_line_rule, stmt as stmt_rule, inner_stmt as inner_stmt_rule, block_at as block_at_rule}
+use Rattle.cc_grammar.specs.Statements.{parallel_for as parallel_for_rule, empty as empty_rule, plain as plain_rule, spawned as spawned_rule, returned as returned_rule, jump as jump_rule, stmt_line as stmt_line_rule, stmt as stmt_rule, inner_stmt as inner_stmt_rule, block_at as block_at_rule}
 use Rattle.cc_grammar.specs.Symbol.{Symbol, never}
 use Rattle.cc_grammar.specs.declared.parts.Block.{Block}
 use Rattle.cc_grammar.specs.declared.parts.Slot.{Slot}
@@ -24,7 +24,7 @@ use Rattle.cc_tree.specs.declared.statements.Stmt.{Stmt, out-roll-Stmt}
 use Rattle.cc_tree.specs.declared.statements.StmtKind.{StmtKind, out-StmtKind, roll-StmtKind, out-roll-StmtKind}
 use Rattle.cc_tree.specs.declared.statements.StmtKind.TheOpen.{StmtKind-F}
 use Rattle.cc_tree.specs.declared.statements.StmtKind.TheVariants as k
-use Rattle.cc_tree.specs.declared.statements.StmtKind.TheVariants.{rolls-Block, rolls-Empty, rolls-Declare, rolls-Assign, rolls-Call, rolls-Print, rolls-If, rolls-While, rolls-For, rolls-Par, rolls-ParFor, rolls-Spawn, rolls-Return}
+use Rattle.cc_tree.specs.declared.statements.StmtKind.TheVariants.{rolls-Block, rolls-Empty, rolls-Declare, rolls-Assign, rolls-Call, rolls-Print, rolls-If, rolls-While, rolls-For, rolls-Break, rolls-Continue, rolls-Par, rolls-ParFor, rolls-Spawn, rolls-Return}
 use Rattle.law_depth.specs.Depth.{EachOf, IfSome, NestsTo, Shallow, ShallowStart, ShallowItem, StatementLayer, statement_layer, StatementParts, StatementNestsTo, ShallowStatement, ShallowMember, ShallowFileItem}
 use Rattle.law_depth.proofs.NestLaws.{deeper, int_nests}
 use Rattle.law_depth.proofs.SpelledLaws.{Holds, seq, skip, gives, choose, each, maybe, nothing, up, within, few, bracketed_spelled, args_spelled, inner_expr_spelled, inner_unary_spelled, expr_nests, place_nests, call_nests, sum_nests}
@@ -50,6 +50,8 @@ module _ (P Q : Stmt → Type 0) (f : (b : Stmt) → P b → Q b) where
   parts_follow (StmtKind-F.If c first other) p = (p.0, f first p.1, some_follows other p.2)
   parts_follow (StmtKind-F.While c b) p = (p.0, f b p.1)
   parts_follow (StmtKind-F.For first c after b) p = (each_follows first p.0, p.1, some_follows after p.2, f b p.3)
+  parts_follow StmtKind-F.Break p = tt
+  parts_follow StmtKind-F.Continue p = tt
   parts_follow (StmtKind-F.Par bs) p = each_follows bs p
   parts_follow (StmtKind-F.ParFor name start c after b) p = (p.0, p.1, f after p.2, f b p.3)
   parts_follow (StmtKind-F.Spawn e) p = p
@@ -242,10 +244,17 @@ module _ (n : ℕ) (le : n ≤ 64) (d : ℕ) where
     unfolding returned_rule
     returned_spelled = skip _ (λ line. seq (maybe (shallow n le)) (λ x q. skip _ (λ m. gives _ _ (nests (suc d) _ _ line (rolls-Return x) q))))
 
+    jump_spelled : Holds (StatementNestsTo (suc (suc d))) jump_rule.spells
+    unfolding jump_rule
+    jump_spelled = choose
+        (skip _ (λ line. skip _ (λ m. gives _ _ (nests (suc d) _ _ line rolls-Break tt))))
+        (skip _ (λ line. skip _ (λ m. gives _ _ (nests (suc d) _ _ line rolls-Continue tt))))
+
     stmt_line_spelled : Holds (StatementNestsTo (suc (suc d))) (stmt_line_rule n stmt).spells
     unfolding stmt_line_rule
     stmt_line_spelled = choose block_stmt_spelled (choose empty_spelled (choose plain_spelled (choose print_spelled (choose choice_spelled
-        (choose loop_spelled (choose for_loop_spelled (choose parallel_spelled (choose parallel_for_spelled (choose spawned_spelled returned_spelled)))))))))
+        (choose loop_spelled (choose for_loop_spelled (choose parallel_spelled (choose parallel_for_spelled (choose spawned_spelled
+        (choose returned_spelled jump_spelled))))))))))
 
 -- ---- within so many levels
 

@@ -100,6 +100,8 @@ module _ (P : Stmt → Type 0) where
   StatementParts (StmtKind-F.If c first other) = Shallow c × P first × IfSome P other
   StatementParts (StmtKind-F.While c b) = Shallow c × P b
   StatementParts (StmtKind-F.For first c after b) = EachOf P first × IfSome Shallow c × IfSome P after × P b
+  StatementParts StmtKind-F.Break = Unit {0}
+  StatementParts StmtKind-F.Continue = Unit {0}
   StatementParts (StmtKind-F.Par bs) = EachOf P bs
   StatementParts (StmtKind-F.ParFor name start c after b) = Shallow start × Shallow c × P after × P b
   StatementParts (StmtKind-F.Spawn e) = Shallow e
