@@ -39,7 +39,7 @@ moved : (r q : Config) → Moves r ≡ Moves q → q ≡ r
 moved r q e = cc
 
 module _ (p : Program) (t : Name) (s r : Config) (l : Thread) (live : fin.get s.threads t ≡ Some (Live l)) where
-  decided : (line : ℕ) (ask : Ask Name) (k : Answer Name → After Term) (v : Verdict) → next p l.term ≡ Asks line ask k
+  decided : (line : ℕ) (ask : Ask Name) (k : Answer Name → After Term) (v : Verdict Name) → next p l.term ≡ Asks line ask k
       → check_all (shapes p) s t l (needs (shapes p) ask) ≡ v → decide p t s l line ask k v ≡ Moves r → IsStep p t s r
   decided line ask k (Go found) asks met e = Met (record {
     l = l;

@@ -12,7 +12,7 @@ use Rattle.cc_core.specs.declared.expression.Expression.{NewObject, Call}
 use Rattle.cc_core.specs.declared.expression.Expression.TheOpen as e
 use Rattle.cc_core.specs.declared.statement.Statement.{Statement, roll-Statement, fold-roll-Statement}
 use Rattle.cc_core.specs.declared.statement.Statement.{Empty, AtLine, Make, Set, Build, Assign, Drop, Print, If, IfElse, While, For}
-use Rattle.cc_core.specs.declared.statement.Statement.{Par, ParFor, Spawn, Return, Block}
+use Rattle.cc_core.specs.declared.statement.Statement.{Break, Continue, Par, ParFor, Spawn, Return, Block}
 use Rattle.cc_core.specs.declared.statement.Statement.TheOpen as s
 use Rattle.cc_core.specs.Core as core
 use Rattle.cc_core.specs.Core.{Term, Stmt}
@@ -121,6 +121,14 @@ while_is c body = fold-roll-Statement Stmt stmt_with (s.While c body)
 pub for_is : (c : Expression) (step body : Statement) → stmt_of (For c step body) ≡ core.For (term_of c) (stmt_of step) (stmt_of body)
 unfolding stmt_of roll-Statement Carrier.roll
 for_is c step body = fold-roll-Statement Stmt stmt_with (s.For c step body)
+
+pub break_is : stmt_of Break ≡ core.Break
+unfolding stmt_of roll-Statement Carrier.roll
+break_is = fold-roll-Statement Stmt stmt_with (s.Break)
+
+pub continue_is : stmt_of Continue ≡ core.Continue
+unfolding stmt_of roll-Statement Carrier.roll
+continue_is = fold-roll-Statement Stmt stmt_with (s.Continue)
 
 pub par_is : (branches : List Statement) → stmt_of (Par branches) ≡ core.Par (stmts_of branches)
 unfolding stmt_of roll-Statement Carrier.roll

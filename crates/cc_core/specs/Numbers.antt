@@ -48,7 +48,7 @@ numbers_after n threads objects = record {
   objects = list_objects n.objects objects;
 }
 
-abbrev pub of_verdict : Program → Name → Config → Thread → Ask Name → (Answer Name → After Term) → Verdict → Option Change
+abbrev pub of_verdict : Program → Name → Config → Thread → Ask Name → (Answer Name → After Term) → Verdict Name → Option Change
 of_verdict p t s l q k Hold = None
 of_verdict p t s l q k (Bad kind) = None
 of_verdict p t s l q k (Go found) = Some (change p t s l q k found)

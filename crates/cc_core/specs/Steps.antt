@@ -76,7 +76,7 @@ change p t s l ask k found =
     let e = effect (shapes p) t l ask found in
     changed t l ask (k (answer l ask e found)) (start_home s l ask) e
 
-abbrev pub decide : Program → Name → Config → Thread → ℕ → Ask Name → (Answer Name → After Term) → Verdict → Outcome
+abbrev pub decide : Program → Name → Config → Thread → ℕ → Ask Name → (Answer Name → After Term) → Verdict Name → Outcome
 decide p t s l line ask k Hold = Waits
 decide p t s l line ask k (Bad kind) = Faults kind line
 decide p t s l line ask k (Go found) = Moves (apply p t (change p t s l ask k found) s)

@@ -92,7 +92,7 @@ processors_of (NewProcessor c vs) = 1
 
 -- room or not
 pub room_case : (made n most : ℕ) (kind : FaultKind)
-    → ((room made n most kind ≡ Go []) × (made + n ≤ most)) ⊎ ((room made n most kind ≡ Bad kind) × (most < made + n))
+    → ((room {N = Name} made n most kind ≡ Go []) × (made + n ≤ most)) ⊎ ((room {N = Name} made n most kind ≡ Bad kind) × (most < made + n))
 room_case made n most kind = ⊎_elim
     (λ (e : nat_le (made + n) most ≡ true). inl (ap (λ b. cond b (Go []) (Bad kind)) e, leb-true _ _ e))
     (λ (e : nat_le (made + n) most ≡ false). inr (ap (λ b. cond b (Go []) (Bad kind)) e, leb-false _ _ e))
@@ -106,7 +106,7 @@ room_fits made n most kind found h = ⊎_elim
 
 module _ (h : Shapes) (s : Config) (t : Name) (l : Thread) where
   -- what a need that is met says of the counts
-  abbrev pub FitsNeed : Need → Type 0
+  abbrev pub FitsNeed : Need Name → Type 0
   FitsNeed (Known r) = Unit {0}
   FitsNeed (Filled a) = Unit {0}
   FitsNeed (Unfilled a) = Unit {0}
@@ -126,7 +126,7 @@ module _ (h : Shapes) (s : Config) (t : Name) (l : Thread) where
   result_gives (Gives a) f found e = (a, refl)
   result_gives {A} (Fails kind) f found e = let g : Bad kind ≡ Go found = e in absurd cc
 
-  fits_need : (n : Need) (found : List Value) → check h s t l n ≡ Go found → FitsNeed n
+  fits_need : (n : Need Name) (found : List Value) → check h s t l n ≡ Go found → FitsNeed n
   fits_need (Known r) found e = tt
   fits_need (Filled a) found e = tt
   fits_need (Unfilled a) found e = tt
@@ -142,7 +142,7 @@ module _ (h : Shapes) (s : Config) (t : Name) (l : Thread) where
   fits_need Processor found e = room_fits s.processors 1 most_processors _ found e
   fits_need (Constructs c vs) found e = result_gives (construct same_name (class_shape h c) vs) _ found e
 
-  pub both_go : (v w : Verdict) (found : List Value) → and_also v w ≡ Go found
+  pub both_go : (v w : Verdict Name) (found : List Value) → and_also v w ≡ Go found
       → (a : List Value) × (b : List Value) × (v ≡ Go a) × (w ≡ Go b) × (found ≡ a ++ b)
   both_go (Go a) (Go b) found e = (a, b, refl, refl, same _ _ e)
     where
@@ -153,7 +153,7 @@ module _ (h : Shapes) (s : Config) (t : Name) (l : Thread) where
   both_go Hold w found e = let f : Hold ≡ Go found = e in absurd cc
   both_go (Bad kind) w found e = let f : Bad kind ≡ Go found = e in absurd cc
 
-  each_fits : (ns : List Need) (found : List Value) → check_all h s t l ns ≡ Go found → EachNeed FitsNeed ns
+  each_fits : (ns : List (Need Name)) (found : List Value) → check_all h s t l ns ≡ Go found → EachNeed FitsNeed ns
   each_fits [] found e = tt
   each_fits (n ∷ ns) found e =
       let b = both_go (check h s t l n) (check_all h s t l ns) found e in (fits_need n b.0 b.2, each_fits ns b.1 b.3)
@@ -242,7 +242,7 @@ module _ (h : Shapes) (s s1 : Config) (c : Change) (l : Thread) where
   abbrev pub IsClash : Value → Type 0
   IsClash a = (o : Name) × (x : ℕ) × (v : Value) × (a ≡ Ptr o x) × (c.effect.writes ≡ (Ptr o x, v) ∷ []) × (cell s o x ≡ Some Empty)
 
-  abbrev pub IsLost : Need → Type 0
+  abbrev pub IsLost : Need Name → Type 0
   IsLost (Known r) = ⊥
   IsLost (Filled a) = ⊥
   IsLost (Unfilled a) = IsClash a

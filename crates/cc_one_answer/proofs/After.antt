@@ -35,36 +35,36 @@ pub record IsChange (s : Config) (t : Name) (c : Change) : Type 0 where
   pub writes : IsWriting s.objects c.effect.writes
 
 -- a verdict later on: the same; or it was that the thread waits; or what was met was lost; or a fault stays one
-pub data Later (v w : Verdict) (Lost : Type 0) : Type 0 where
+pub data Later (v w : Verdict Name) (Lost : Type 0) : Type 0 where
   Same : v ≡ w → Later v w Lost
   Waited : v ≡ Hold → Later v w Lost
   Lacks : (found : List Value) → v ≡ Go found → (kind : FaultKind) → w ≡ Bad kind → Lost → Later v w Lost
   StaysBad : (kind : FaultKind) → v ≡ Bad kind → (other : FaultKind) → w ≡ Bad other → Later v w Lost
 
-lacks_both : (v w vs ws : Verdict) (L M : Type 0) (found : List Value) → v ≡ Go found → (kind : FaultKind) → w ≡ Bad kind → L
+lacks_both : (v w vs ws : Verdict Name) (L M : Type 0) (found : List Value) → v ≡ Go found → (kind : FaultKind) → w ≡ Bad kind → L
     → Later (and_also v vs) (and_also w ws) (L ⊎ M)
 lacks_both v w (Go b) ws L M found e kind f l = Lacks (found ++ b) (ap (λ z. and_also z (Go b)) e) kind (ap (λ z. and_also z ws) f) (inl l)
 lacks_both v w Hold ws L M found e kind f l = Waited (ap (λ z. and_also z Hold) e)
 lacks_both v w (Bad j) ws L M found e kind f l = StaysBad j (ap (λ z. and_also z (Bad j)) e) kind (ap (λ z. and_also z ws) f)
 
-same_lacks : (v vs ws : Verdict) (L M : Type 0) (found : List Value) → vs ≡ Go found → (kind : FaultKind) → ws ≡ Bad kind → M
+same_lacks : (v vs ws : Verdict Name) (L M : Type 0) (found : List Value) → vs ≡ Go found → (kind : FaultKind) → ws ≡ Bad kind → M
     → Later (and_also v vs) (and_also v ws) (L ⊎ M)
 same_lacks (Go a) vs ws L M found e kind f m = Lacks (a ++ found) (ap (and_also (Go a)) e) kind (ap (and_also (Go a)) f) (inr m)
 same_lacks Hold vs ws L M found e kind f m = Same refl
 same_lacks (Bad j) vs ws L M found e kind f m = Same refl
 
-same_bad : (v vs ws : Verdict) (L : Type 0) (kind : FaultKind) → vs ≡ Bad kind → (other : FaultKind) → ws ≡ Bad other
+same_bad : (v vs ws : Verdict Name) (L : Type 0) (kind : FaultKind) → vs ≡ Bad kind → (other : FaultKind) → ws ≡ Bad other
     → Later (and_also v vs) (and_also v ws) L
 same_bad (Go a) vs ws L kind e other f = StaysBad kind (ap (and_also (Go a)) e) other (ap (and_also (Go a)) f)
 same_bad Hold vs ws L kind e other f = Same refl
 same_bad (Bad j) vs ws L kind e other f = Same refl
 
-same_waited : (v w vs : Verdict) (L : Type 0) → vs ≡ Hold → Later (and_also v vs) (and_also v w) L
+same_waited : (v w vs : Verdict Name) (L : Type 0) → vs ≡ Hold → Later (and_also v vs) (and_also v w) L
 same_waited (Go a) w vs L e = Waited (ap (and_also (Go a)) e)
 same_waited Hold w vs L e = Same refl
 same_waited (Bad j) w vs L e = Same refl
 
-later_both : (v w vs ws : Verdict) (L M : Type 0) → Later v w L → Later vs ws M → Later (and_also v vs) (and_also w ws) (L ⊎ M)
+later_both : (v w vs ws : Verdict Name) (L M : Type 0) → Later v w L → Later vs ws M → Later (and_also v vs) (and_also w ws) (L ⊎ M)
 later_both v w vs ws L M (Waited e) b = Waited (ap (λ z. and_also z vs) e)
 later_both v w vs ws L M (Lacks found e kind f l) b = lacks_both v w vs ws L M found e kind f l
 later_both v w vs ws L M (StaysBad kind e other f) b =
@@ -222,14 +222,14 @@ module _ (p : Program) (s : Config) (t : Name) (c : Change) (free : NamesAreFree
 
   -- another thread m
   module _ (h : Shapes) (u : Name) (m : Thread) (not_atomic : (f : ℕ) → (function_shape h f).atomic ≡ false) where
-    abbrev pub Lost : Need → Type 0
+    abbrev pub Lost : Need Name → Type 0
     Lost = IsLost h s s1 c m
 
-    abbrev pub Follows : Need → Type 0
+    abbrev pub Follows : Need Name → Type 0
     Follows n = Later (check h s u m n) (check h s1 u m n) (Lost n)
 
     -- no plain cell that the need looks at is written, and no cell of an object that it copies
-    abbrev pub IsUnwritten : Need → Type 0
+    abbrev pub IsUnwritten : Need Name → Type 0
     IsUnwritten n =
         ((o : Name) (x : ℕ) (v w : Value) → c.effect.writes ≡ (Ptr o x, v) ∷ [] → cell s o x ≡ Some (Plain w) → LooksAt o x n → ⊥)
         × ((o : Name) (x : ℕ) (v : Value) → c.effect.writes ≡ (Ptr o x, v) ∷ [] → LooksThrough o n → ⊥)
@@ -312,7 +312,7 @@ module _ (p : Program) (s : Config) (t : Name) (c : Change) (free : NamesAreFree
         (room_later (count s.threads_made (home s a)) (count s1.threads_made (home s a)) 1 most_threads ThreadsFull
         (threads_grow c.new s.threads_made (home s a)))
 
-    pub need_later : (n : Need) → IsThere s n → IsUnwritten n → Follows n
+    pub need_later : (n : Need Name) → IsThere s n → IsUnwritten n → Follows n
     need_later (Known r) there un = Same refl
     need_later (Filled a) there un = filled a there un
     need_later (Unfilled a) there un = unfilled a there un
@@ -333,7 +333,7 @@ module _ (p : Program) (s : Config) (t : Name) (c : Change) (free : NamesAreFree
         room_later s.processors s1.processors 1 most_processors ProcessorsFull (omega arith)
     need_later (Constructs k vs) there un = Same refl
 
-    pub all_later : (ns : List Need) → EachNeed (IsThere s) ns
+    pub all_later : (ns : List (Need Name)) → EachNeed (IsThere s) ns
         → ((o : Name) (x : ℕ) (v w : Value) → c.effect.writes ≡ (Ptr o x, v) ∷ [] → cell s o x ≡ Some (Plain w) → AnyNeed (LooksAt o x) ns → ⊥)
         → ((o : Name) (x : ℕ) (v : Value) → c.effect.writes ≡ (Ptr o x, v) ∷ [] → AnyNeed (LooksThrough o) ns → ⊥)
         → Later (check_all h s u m ns) (check_all h s1 u m ns) (AnyNeed Lost ns)

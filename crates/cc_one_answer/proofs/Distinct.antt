@@ -4,7 +4,7 @@ use Rattle.global_ptr.specs.declared.ends.FaultKind.{FaultKind}
 use Rattle.cc_ops.specs.Values.{Ptr, Gives, Fails}
 use Rattle.cc_core.specs.Names.{Name, Value}
 use Rattle.cc_core.specs.Config.{Thread, Live, Ended}
-use Rattle.cc_core.specs.Needs.{Go, Hold, Bad}
+use Rattle.cc_core.specs.Needs.{Verdict, Go, Hold, Bad}
 
 pub none_written : (w : Value × Value) → [] ≡ w ∷ [] → ⊥
 none_written w e = cc
@@ -30,7 +30,7 @@ hold_not_go found e = cc
 pub bad_not_go : (kind : FaultKind) (found : List Value) → Bad kind ≡ Go found → ⊥
 bad_not_go kind found e = cc
 
-pub hold_not_bad : (kind : FaultKind) → Hold ≡ Bad kind → ⊥
+pub hold_not_bad : (kind : FaultKind) → ◌≡◌ {A = Verdict Name} Hold (Bad kind) → ⊥
 hold_not_bad kind e = cc
 
 pub some_not_none : {X : Type 0} (x : X) → Some x ≡ None → ⊥

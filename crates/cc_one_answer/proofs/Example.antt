@@ -1,11 +1,11 @@
 -- A program that is determinate, so that the law of one answer says something:
---     int main() { sync int s; int x = 1; par { s = x; { int z = s; } } cout << x; return x; }
+--     int main() { sync int s; int x = 1; par { s = x; { int z = s; while (z) break; } } cout << x; return x; }
 use Rattle.std.proofs.Common.{◌≡◌, ◌≢◌, ℕ, zero, suc, true, false, [], ◌∷◌, length, None, refl, inl}
 use Rattle.std.specs.Prelude.{pos}
 use Rattle.cc_ops.specs.Values.{IntC}
 use Rattle.cc_ops.specs.declared.kind.Kind.TheVariants.{Int as IntK, SyncInt as SyncIntK}
-use Rattle.cc_core.specs.Core.{Term, Push, Variable, Load, NoTerms, MoreTerms, AtLine, Make, Set, Assign, Print, Number, Par, Return, Block}
-use Rattle.cc_core.specs.Core.{Stmts, NoStmts, MoreStmts, Program, Function, no_shape, function}
+use Rattle.cc_core.specs.Core.{Term, Push, Variable, Load, NoTerms, MoreTerms, AtLine, Make, Set, Assign, Print, Number, While, Break, Par, Return}
+use Rattle.cc_core.specs.Core.{Block, Stmts, NoStmts, MoreStmts, Program, Function, no_shape, function}
 use Rattle.cc_core.specs.Effects.{numbers}
 use Rattle.cc_core.specs.Types.{AnInt, AnAddress, Cells, FunctionTypes, Types, function_types}
 use Rattle.cc_one_answer.specs.Sorts.{Valued, NamedCell}
@@ -14,10 +14,15 @@ use Rattle.cc_one_answer.specs.Determinate.{DetStmts, AreParameters, IsDetermina
 abbrev read : ℕ → Term
 read k = Load false (Variable k)
 
+abbrev second : Stmts
+second =
+    MoreStmts (AtLine 1 (Set 2 IntK (read 0)))
+    (MoreStmts (AtLine 1 (While (read 2) (AtLine 1 Break))) NoStmts)
+
 abbrev parts : Stmts
 parts =
     MoreStmts (AtLine 1 (Assign false (Variable 0) (read 1)))
-    (MoreStmts (AtLine 1 (Block (MoreStmts (AtLine 1 (Set 2 IntK (read 0))) NoStmts))) NoStmts)
+    (MoreStmts (AtLine 1 (Block second)) NoStmts)
 
 abbrev body : Stmts
 body =
@@ -61,7 +66,13 @@ example = record {
             (Cells true AnInt, refl, refl),
             (NamedCell AnInt, false, AnInt, (refl, refl), refl, (Cells false AnInt, refl, refl)),
           ),
-          (((AnInt, refl, (Valued (AnAddress (Cells true AnInt)), true, AnInt, refl, refl, (Cells true AnInt, refl, refl))), tt), tt),
+          (
+            (
+              (AnInt, refl, (Valued (AnAddress (Cells true AnInt)), true, AnInt, refl, refl, (Cells true AnInt, refl, refl))),
+              ((Valued AnInt, (NamedCell AnInt, false, AnInt, (refl, refl), refl, (Cells false AnInt, refl, refl)), tt), tt),
+            ),
+            tt,
+          ),
         ),
         (
           (AnInt ∷ [], refl, (AnInt, [], refl, (NamedCell AnInt, false, AnInt, (refl, refl), refl, (Cells false AnInt, refl, refl)), refl)),

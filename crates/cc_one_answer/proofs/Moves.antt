@@ -74,7 +74,7 @@ module _ (p : Program) (t : Name) (s : Config) where
   met_is r q e = cc
 
   module _ (s1 : Config) (l : Thread) (live : fin.get s.threads t ≡ Some (Live l)) where
-    decided : (line : ℕ) (ask : Ask Name) (k : Answer Name → After Term) (v : Verdict) → next p l.term ≡ Asks line ask k → l.asked ≡ None
+    decided : (line : ℕ) (ask : Ask Name) (k : Answer Name → After Term) (v : Verdict Name) → next p l.term ≡ Asks line ask k → l.asked ≡ None
         → check_all (shapes p) s t l (needs (shapes p) ask) ≡ v → decide p t s l line ask k v ≡ Moves s1 → IsMove p t s s1
     decided line ask k (Go found) asks free met e = Met (record {
       a = record { l = l; line = line; ask = ask; k = k; live = live; asks = asks; not_asked = free };
@@ -111,7 +111,7 @@ module _ (p : Program) (t : Name) (s : Config) where
       from (Some (Live l)) is f = acted s1 l is (next p l.term) l.asked refl refl f
 
   module _ (kind : FaultKind) (at : ℕ) (l : Thread) (live : fin.get s.threads t ≡ Some (Live l)) where
-    decided_bad : (line : ℕ) (ask : Ask Name) (k : Answer Name → After Term) (v : Verdict) → next p l.term ≡ Asks line ask k
+    decided_bad : (line : ℕ) (ask : Ask Name) (k : Answer Name → After Term) (v : Verdict Name) → next p l.term ≡ Asks line ask k
         → l.asked ≡ None → check_all (shapes p) s t l (needs (shapes p) ask) ≡ v → decide p t s l line ask k v ≡ Faults kind at
         → IsBroken p s t
     decided_bad line ask k (Go found) asks free met e =

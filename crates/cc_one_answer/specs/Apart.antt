@@ -22,16 +22,16 @@ pub record IsAsking (p : Program) (s : Config) (t : Name) : Type 0 where
   pub not_asked : l.asked ≡ None
 
 -- some of these needs is such a one; each of them is
-abbrev pub AnyNeed : (Need → Type 0) → List Need → Type 0
+abbrev pub AnyNeed : (Need Name → Type 0) → List (Need Name) → Type 0
 AnyNeed P [] = ⊥
 AnyNeed P (n ∷ ns) = P n ⊎ AnyNeed P ns
 
-abbrev pub EachNeed : (Need → Type 0) → List Need → Type 0
+abbrev pub EachNeed : (Need Name → Type 0) → List (Need Name) → Type 0
 EachNeed P [] = Unit {0}
 EachNeed P (n ∷ ns) = P n × EachNeed P ns
 
 -- a need that looks at the cell of an object at an offset
-abbrev pub LooksAt : Name → ℕ → Need → Type 0
+abbrev pub LooksAt : Name → ℕ → Need Name → Type 0
 LooksAt o x (Known r) = ⊥
 LooksAt o x (Filled a) = a ≡ Ptr o x
 LooksAt o x (Unfilled a) = a ≡ Ptr o x
@@ -48,7 +48,7 @@ LooksAt o x Processor = ⊥
 LooksAt o x (Constructs c vs) = ⊥
 
 -- a need that looks at all cells of an object
-abbrev pub LooksThrough : Name → Need → Type 0
+abbrev pub LooksThrough : Name → Need Name → Type 0
 LooksThrough o (Known r) = ⊥
 LooksThrough o (Filled a) = ⊥
 LooksThrough o (Unfilled a) = ⊥
@@ -72,7 +72,7 @@ Leads s Null = Unit {0}
 Leads s (Ptr o x) = (a : Object) × (fin.get s.objects o ≡ Some a)
 
 -- the object that a need looks at is there
-abbrev pub IsThere : Config → Need → Type 0
+abbrev pub IsThere : Config → Need Name → Type 0
 IsThere s (Known r) = Unit {0}
 IsThere s (Filled a) = Leads s a
 IsThere s (Unfilled a) = Leads s a

@@ -52,7 +52,7 @@ module _ (p : Program) (y : Types) (ok : HasTypes p y) (source : IsProgram p) (n
         (all_inside t l live).0 (calm_of w l.home l.inside inside)
 
     decided : (line : ℕ) (ask : Ask Name) (k : Answer Name → After Term) (us : List ValueType) → IsAsk p y w l.home false ask us
-        → (v : Verdict) → check_all (shapes p) s t l (needs (shapes p) ask) ≡ v → CanMove (decide p t s l line ask k v)
+        → (v : Verdict Name) → check_all (shapes p) s t l (needs (shapes p) ask) ≡ v → CanMove (decide p t s l line ask k v)
     decided line ask k us f (Go found) e = tt
     decided line ask k us f Hold e = absurd (never_holds p y w s typed.objects t l ask us f e)
     decided line ask k us f (Bad kind) e = tt
@@ -122,7 +122,7 @@ copies_call_nothing a b f n o from vs k g e = cc
 module _ (p : Program) (y : Types) (w : World) (s : Config) (typed : IsTypedAt p y w s) (t : Name) (l : Thread)
     (live : fin.get s.threads t ≡ Some (Live l)) (line : ℕ) (from : Value) (n : ℕ) (k : Answer Name → After Term)
     (asks : next p l.term ≡ Asks line (Copies from n) k) (us : List ValueType) (f : IsAsk p y w l.home false (Copies from n) us) where
-  copy_decided : (v : Verdict) → check_all (shapes p) s t l (needs (shapes p) (Copies from n)) ≡ v
+  copy_decided : (v : Verdict Name) → check_all (shapes p) s t l (needs (shapes p) (Copies from n)) ≡ v
       → CanMove (decide p t s l line (Copies from n) k v)
   copy_decided (Go found) e = tt
   copy_decided Hold e = absurd (never_holds p y w s typed.objects t l (Copies from n) us f e)

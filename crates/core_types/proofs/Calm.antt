@@ -326,7 +326,7 @@ module _ (p : Program) (y : Types) (ok : HasTypes p y) (plain : IsPlainProgram p
 
 -- what is asked where nothing may wait never waits
 
-not_both : (v z : Verdict) → (v ≡ Hold → ⊥) → (z ≡ Hold → ⊥) → and_also v z ≡ Hold → ⊥
+not_both : (v z : Verdict Name) → (v ≡ Hold → ⊥) → (z ≡ Hold → ⊥) → and_also v z ≡ Hold → ⊥
 not_both (Go a) (Go b) f g e = let x : Go (a ++ b) ≡ Hold = e in cc
 not_both (Go a) Hold f g e = g refl
 not_both (Go a) (Bad kind) f g e = let x : Bad kind ≡ Hold = e in cc
@@ -336,17 +336,17 @@ not_both (Bad kind) z f g e = let x : Bad kind ≡ Hold = e in cc
 go_on : (found : List Value) → Go found ≡ Hold → ⊥
 go_on found e = cc
 
-is_bad : (kind : FaultKind) → Bad kind ≡ Hold → ⊥
+is_bad : (kind : FaultKind) → ◌≡◌ {A = Verdict Name} (Bad kind) Hold → ⊥
 is_bad kind e = cc
 
 result_goes : {A : Type 0} (r : Result A) (f : A → List Value) → of_result r f ≡ Hold → ⊥
 result_goes (Gives x) f e = go_on _ e
 result_goes (Fails kind) f e = is_bad kind e
 
-room_goes : (made n most : ℕ) (kind : FaultKind) → room made n most kind ≡ Hold → ⊥
+room_goes : (made n most : ℕ) (kind : FaultKind) → room {N = Name} made n most kind ≡ Hold → ⊥
 room_goes made n most kind e = from (nat_le (made + n) most) e
   where
-    from : (b : Bool) → cond b (Go []) (Bad kind) ≡ Hold → ⊥
+    from : (b : Bool) → cond {A = Verdict Name} b (Go []) (Bad kind) ≡ Hold → ⊥
     from true f = go_on _ f
     from false f = is_bad kind f
 
@@ -377,7 +377,7 @@ never_allowed : (b : Bool) → Allowed false b → b ≡ false
 never_allowed true e = let x : false ≡ true = e in cc
 never_allowed false e = refl
 
-free_goes : (a b : Bool) → a ≡ false → cond (a && b) Hold (Go []) ≡ Hold → ⊥
+free_goes : (a b : Bool) → a ≡ false → cond {A = Verdict Name} (a && b) Hold (Go []) ≡ Hold → ⊥
 free_goes true b e f = let x : true ≡ false = e in cc
 free_goes false b e f = go_on _ f
 
@@ -414,7 +414,7 @@ module _ (p : Program) (y : Types) (w : World) (s : Config) (stored : InStep y w
   read_at Null a sync u f i e g = is_bad _ g
   read_at (Ptr o x) a sync u f i e g = read_cell o x a sync u f i e (cell s o x) refl g
 
-  last : (v : Verdict) → (v ≡ Hold → ⊥) → and_also v (Go []) ≡ Hold → ⊥
+  last : (v : Verdict Name) → (v ≡ Hold → ⊥) → and_also v (Go []) ≡ Hold → ⊥
   last v f e = not_both v (Go []) f (go_on []) e
 
   deeper_goes : check h s t l Deeper ≡ Hold → ⊥

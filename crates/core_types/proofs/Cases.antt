@@ -40,7 +40,7 @@ moved a b e = cc
 
 module _ (p : Program) (t : Name) (s r : Config) where
   module _ (l : Thread) (live : fin.get s.threads t ≡ Some (Live l)) where
-    decided : (line : ℕ) (ask : Ask Name) (k : Answer Name → After Term) (v : Verdict) → next p l.term ≡ Asks line ask k
+    decided : (line : ℕ) (ask : Ask Name) (k : Answer Name → After Term) (v : Verdict Name) → next p l.term ≡ Asks line ask k
         → check_all (shapes p) s t l (needs (shapes p) ask) ≡ v → decide p t s l line ask k v ≡ Moves r → StepIs p t s r
     decided line ask k (Go found) asks met e = AMet (record {
       l = l;

@@ -193,7 +193,7 @@ result_none : {A : Type 0} (r : Result A) (a : List Value) → of_result r (λ c
 result_none (Gives x) a e = sym (same_go [] a e)
 result_none (Fails kind) a e = absurd (bad_not_go kind a e)
 
-abbrev pub FindsNothing : Need → Type 0
+abbrev pub FindsNothing : Need Name → Type 0
 FindsNothing (KnownNeed r) = ⊥
 FindsNothing (Filled a) = ⊥
 FindsNothing (Unfilled a) = Unit {0}
@@ -209,11 +209,11 @@ FindsNothing (FirstSlots n) = Unit {0}
 FindsNothing Processor = Unit {0}
 FindsNothing (Constructs c vs) = Unit {0}
 
-abbrev pub FindNothing : List Need → Type 0
+abbrev pub FindNothing : List (Need Name) → Type 0
 FindNothing [] = Unit {0}
 FindNothing (n ∷ ns) = FindsNothing n × FindNothing ns
 
-pub both_go : (v w : Verdict) (found : List Value) → and_also v w ≡ Go found
+pub both_go : (v w : Verdict Name) (found : List Value) → and_also v w ≡ Go found
     → (a : List Value) × (b : List Value) × (v ≡ Go a) × (w ≡ Go b) × (found ≡ a ++ b)
 both_go (Go a) (Go b) found e = (a, b, refl, refl, sym (same_go _ _ e))
 both_go (Go a) Hold found e = let f : Hold ≡ Go found = e in absurd (hold_not_go found f)
@@ -222,7 +222,7 @@ both_go Hold w found e = let f : Hold ≡ Go found = e in absurd (hold_not_go fo
 both_go (Bad kind) w found e = let f : Bad kind ≡ Go found = e in absurd (bad_not_go kind found f)
 
 module _ (h : Shapes) (s : Config) (t : Name) (l : Thread) where
-  pub nothing_found : (n : Need) → FindsNothing n → (a : List Value) → check h s t l n ≡ Go a → a ≡ []
+  pub nothing_found : (n : Need Name) → FindsNothing n → (a : List Value) → check h s t l n ≡ Go a → a ≡ []
   nothing_found (KnownNeed r) k a e = absurd k
   nothing_found (Filled v) k a e = absurd k
   nothing_found (Unfilled Void) k a e = absurd (bad_not_go NullPointer a e)
@@ -241,7 +241,7 @@ module _ (h : Shapes) (s : Config) (t : Name) (l : Thread) where
   nothing_found Processor k a e = room_found _ _ _ _ a e
   nothing_found (Constructs c vs) k a e = result_none _ a e
 
-  pub none_found : (ns : List Need) → FindNothing ns → (found : List Value) → check_all h s t l ns ≡ Go found → found ≡ []
+  pub none_found : (ns : List (Need Name)) → FindNothing ns → (found : List Value) → check_all h s t l ns ≡ Go found → found ≡ []
   none_found [] k found e = sym (same_go [] found e)
   none_found (n ∷ ns) k found e =
       let b = both_go (check h s t l n) (check_all h s t l ns) found e in
@@ -254,7 +254,7 @@ module _ (h : Shapes) (s : Config) (t : Name) (l : Thread) where
   result_found (Fails kind) a e = absurd (bad_not_go kind a e)
 
   -- one need, and what it finds
-  pub only_need : (n : Need) (found : List Value) → check_all h s t l (n ∷ []) ≡ Go found → check h s t l n ≡ Go found
+  pub only_need : (n : Need Name) (found : List Value) → check_all h s t l (n ∷ []) ≡ Go found → check h s t l n ≡ Go found
   only_need n found e =
       let b = both_go (check h s t l n) (Go []) found e in
       let nothing = same_go [] b.1 b.3 in

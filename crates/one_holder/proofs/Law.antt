@@ -1,10 +1,10 @@
 -- In every configuration of a run an object has one holder, which is inside one atomic function of it.
-use Rattle.std.proofs.Common.{◌≡◌, ◌⊎◌, inl, inr, ⊎_elim, ℕ, Bool, true, false, ◌&&◌, ◌||◌, ◌==◌, List, [], ◌∷◌, ◌++◌, length, Some, None, refl, sym, ap, ◌∙◌, subst}
+use Rattle.std.proofs.Common.{◌≡◌, ◌⊎◌, inl, inr, ⊎_elim, ℕ, Bool, true, false, ◌&&◌, ◌||◌, List, [], ◌∷◌, ◌++◌, length, Some, None, refl, sym, ap, ◌∙◌, subst}
 use Rattle.std.proofs.lemmas.Bool.{cases_Bool}
 use Rattle.std.specs.Prelude.{ℤ}
 use Rattle.std.specs.FinMap as fin
 use Rattle.cc_ops.specs.Values.{Void, Ptr}
-use Rattle.cc_core.specs.Names.{Name, name_cmp, same_name, Map, Value}
+use Rattle.cc_core.specs.Names.{Name, name_cmp, Map, Value}
 use Rattle.cc_core.specs.Core.{Program, Shapes, function, function_shape, shapes}
 use Rattle.cc_core.specs.Next.{entered}
 use Rattle.cc_core.specs.Config.{Config, Thread, State, Live, Ended}

@@ -23,12 +23,12 @@ pub data GoesOn (h : Shapes) (threads : List State) (before after : List (ℕ ×
 
 -- ---- a function is entered only where its object is free
 
-first_goes : (v w : Verdict) (vs : List Value) → and_also v w ≡ Go vs → (us : List Value) × (v ≡ Go us)
+first_goes : (v w : Verdict Name) (vs : List Value) → and_also v w ≡ Go vs → (us : List Value) × (v ≡ Go us)
 first_goes (Go us) w vs e = (us, refl)
 first_goes Hold w vs e = cc
 first_goes (Bad kind) w vs e = cc
 
-then_goes : (v w : Verdict) (vs : List Value) → and_also v w ≡ Go vs → (us : List Value) × (w ≡ Go us)
+then_goes : (v w : Verdict Name) (vs : List Value) → and_also v w ≡ Go vs → (us : List Value) × (w ≡ Go us)
 then_goes (Go us) (Go ws) vs e = (ws, refl)
 then_goes (Go us) Hold vs e = cc
 then_goes (Go us) (Bad kind) vs e = cc

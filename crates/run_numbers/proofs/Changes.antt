@@ -38,7 +38,7 @@ moved r q e = cc
 
 module _ (p : Program) (t : Name) (s r : Config) (n : Numbers) where
   module _ (l : Thread) (live : fin.get s.threads t ≡ Some (Live l)) where
-    decided : (line : ℕ) (ask : Ask Name) (k : Answer Name → After Term) (v : Verdict) → decide p t s l line ask k v ≡ Moves r
+    decided : (line : ℕ) (ask : Ask Name) (k : Answer Name → After Term) (v : Verdict Name) → decide p t s l line ask k v ≡ Moves r
         → IsNumberedStep p t s r n (after_change n (of_verdict p t s l ask k v))
     decided line ask k (Go found) e =
         Met (record { l = l; live = live; ask = ask; k = k; found = found; is = moved _ _ e; numbers = refl })

@@ -64,7 +64,7 @@ abbrev stepped_by : Program → Name → Config → (l : Thread) → (found : Li
 stepped_by p t s l found (Ready v) = s
 stepped_by p t s l found (Asks line ask go) = apply p t (change p t s l ask go found) s
 
-abbrev checked_by : Program → Name → Config → Thread → Next Value Term → Verdict
+abbrev checked_by : Program → Name → Config → Thread → Next Value Term → Verdict Name
 checked_by p t s l (Ready v) = Hold
 checked_by p t s l (Asks line ask go) = check_all (shapes p) s t l (needs (shapes p) ask)
 
@@ -75,7 +75,7 @@ module _ (p : Program) (t : Name) (s : Config) (l : Thread) where
   abbrev pub stepped : (found : List Value) → Config
   stepped found = stepped_by p t s l found (next p l.term)
 
-  abbrev pub checked : Verdict
+  abbrev pub checked : Verdict Name
   checked = checked_by p t s l (next p l.term)
 
   module _ (live : fin.get s.threads t ≡ Some (Live l)) (free : l.asked ≡ None) where
