@@ -206,6 +206,8 @@ module _ (y : Types) (main : ℕ) (here : FunctionTypes) (ps : List Declared) (f
       one_set_by (StmtKind-F.If c' first other) b s here' q = absurd (other_never cx b s q)
       one_set_by (StmtKind-F.While c' x) b s here' q = absurd (other_never cx b s q)
       one_set_by (StmtKind-F.For first c' after x) b s here' q = absurd (other_never cx b s q)
+      one_set_by StmtKind-F.Break b s here' q = absurd (other_never cx b s q)
+      one_set_by StmtKind-F.Continue b s here' q = absurd (other_never cx b s q)
       one_set_by (StmtKind-F.Par bs) b s here' q = absurd (other_never cx b s q)
       one_set_by (StmtKind-F.ParFor name start c' after x) b s here' q = absurd (other_never cx b s q)
       one_set_by (StmtKind-F.Spawn e) b s here' q = absurd (other_never cx b s q)

@@ -16,7 +16,7 @@ use Rattle.cc_core.specs.Types.{ValueType, AnAddress, Target, Cells, ObjectOf, F
 use Rattle.cc_core.specs.View.{term_of, how_of, stmt_of, stmts_of}
 use Rattle.cc_core.proofs.ViewLaws.{push_is, this_is, variable_is, member_is, index_is, at_is, load_is, unary_is, binary_is, and_is, or_is, new_is}
 use Rattle.cc_core.proofs.ViewLaws.{new_object_is, call_is, empty_is, at_line_is, make_is, set_is, build_is, assign_is, drop_is, print_is, if_is, if_else_is}
-use Rattle.cc_core.proofs.ViewLaws.{while_is, for_is, par_is, parfor_is, spawn_is, return_is, block_is}
+use Rattle.cc_core.proofs.ViewLaws.{while_is, for_is, break_is, continue_is, par_is, parfor_is, spawn_is, return_is, block_is}
 use Rattle.cc_one_answer.specs.Sorts.{Sort, Valued, MemberAt, variable_sort, is_sync, IsCell, IsElement}
 use Rattle.cc_one_answer.specs.Determinate.{IsTaken, DetTerm, MayWrite, DetStmt, DetStmts, DetBranches}
 use Rattle.cc_shared.proofs.Det.{Sorted, Values, AllValues, Leads}
@@ -141,6 +141,12 @@ module _ (y : Types) (main : ℕ) (here : FunctionTypes) where
     pub for_fits : (c : Expression) (step b : Statement) (u : ValueType) → declares (stmt_of step) own ≡ own → Values y main here c u
         → StmtFits prints own step → StmtFits prints own b → StmtFits prints own (s.For c step b)
     for_fits c step b u same f h i = stmt _ _ (for_is c step b) (Valued u, same, f, h, i)
+
+    pub break_fits : StmtFits prints own s.Break
+    break_fits = stmt _ _ break_is tt
+
+    pub continue_fits : StmtFits prints own s.Continue
+    continue_fits = stmt _ _ continue_is tt
 
     pub par_fits : (bs : List Statement) → BranchesFit bs → StmtFits prints own (s.Par bs)
     par_fits bs f = stmt _ _ (par_is bs) f

@@ -6,7 +6,7 @@ use Rattle.cc_grammar.specs.Symbol.{Symbol, Repeats, never}
 use Rattle.cc_grammar.specs.Nodes.{stated, assigned, called, declared, joined, one, line_of, decl_of}
 use Rattle.cc_grammar.specs.Declarations.{var, decl}
 use Rattle.cc_grammar.specs.Statements.{simple as simple_rule, beginning as beginning_rule, maybe_beginning as maybe_beginning_rule, header as header_rule, counter as counter_rule, entry as entry_rule, entries as entries_rule, block as block_rule, block_stmt as block_stmt_rule, otherwise as otherwise_rule, choice as choice_rule, loop as loop_rule}
-use Rattle.cc_grammar.specs.Statements.{for_loop as for_loop_rule, parallel as parallel_rule, parallel_for as parallel_for_rule, empty as empty_rule, plain as plain_rule, print as print_rule, spawned as spawned_rule, returned as returned_rule, stmt_line as stmt_line_rule, stmt as stmt_rule, inner_stmt as inner_stmt_rule, block_at as block_at_rule}
+use Rattle.cc_grammar.specs.Statements.{for_loop as for_loop_rule, parallel as parallel_rule, parallel_for as parallel_for_rule, empty as empty_rule, plain as plain_rule, print as print_rule, spawned as spawned_rule, returned as returned_rule, jump as jump_rule, stmt_line as stmt_line_rule, stmt as stmt_rule, inner_stmt as inner_stmt_rule, block_at as block_at_rule}
 use Rattle.cc_grammar.specs.Items.{function as function_of_items, label as label_of_items, build as build_of_items, atomic_method as atomic_method_of_items, method as method_of_items, fields as fields_of_items, member as member_of_items, member_list as member_list_of_items, members as members_of_items, constant as constant_of_items, class as class_of_items, item as item_of_items}
 use Rattle.cc_grammar.specs.Program.{program, Spells}
 use Rattle.cc_grammar.specs.declared.parts.Block.{Block}
@@ -21,7 +21,7 @@ use Rattle.cc_tree.specs.declared.statements.Stmt.{Stmt, out-roll-Stmt}
 use Rattle.cc_tree.specs.declared.statements.StmtKind.{StmtKind, out-StmtKind, roll-StmtKind, out-roll-StmtKind}
 use Rattle.cc_tree.specs.declared.statements.StmtKind.TheOpen.{StmtKind-F}
 use Rattle.cc_tree.specs.declared.statements.StmtKind.TheVariants as k
-use Rattle.cc_tree.specs.declared.statements.StmtKind.TheVariants.{rolls-Block, rolls-Empty, rolls-Declare, rolls-Assign, rolls-Call, rolls-Print, rolls-If, rolls-While, rolls-For, rolls-Par, rolls-ParFor, rolls-Spawn, rolls-Return}
+use Rattle.cc_tree.specs.declared.statements.StmtKind.TheVariants.{rolls-Block, rolls-Empty, rolls-Declare, rolls-Assign, rolls-Call, rolls-Print, rolls-If, rolls-While, rolls-For, rolls-Break, rolls-Continue, rolls-Par, rolls-ParFor, rolls-Spawn, rolls-Return}
 use Rattle.cc_shared.proofs.Proper.{Layer, layer, DeclaresNone, EachOf, IfSome, Sub, ProperParts, IsProper, AlwaysProper}
 
 -- ---- what a symbol spells
@@ -88,6 +88,8 @@ parts_at d (StmtKind-F.Print xs) p = tt
 parts_at d (StmtKind-F.If c first other) p = (((p.0).0, (p.0).1 d), some_at d other p.1)
 parts_at d (StmtKind-F.While c b) p = (p.0, p.1 d)
 parts_at d (StmtKind-F.For first c after b) p = (each_at IsProper d first p.0, some_at d after p.1, ((p.2).0, (p.2).1 d))
+parts_at d StmtKind-F.Break p = tt
+parts_at d StmtKind-F.Continue p = tt
 parts_at d (StmtKind-F.Par bs) p = subs_at d bs p
 parts_at d (StmtKind-F.ParFor name start c after b) p = (((p.0).0, (p.0).1 d), ((p.1).0, (p.1).1 d))
 parts_at d (StmtKind-F.Spawn e) p = tt
@@ -207,10 +209,16 @@ module _ (n : ℕ) (stmt : Symbol Stmt) (whole : Holds (Sub AlwaysProper) stmt.s
   unfolding returned_rule
   returned_spelled = skip _ (λ line. skip _ (λ x. skip _ (λ m. gives _ _ (sub _ _ line (rolls-Return x) tt tt))))
 
+  jump_spelled : Holds (Sub AlwaysProper) jump_rule.spells
+  unfolding jump_rule
+  jump_spelled = choose (skip _ (λ line. skip _ (λ m. gives _ _ (sub _ _ line rolls-Break tt tt))))
+      (skip _ (λ line. skip _ (λ m. gives _ _ (sub _ _ line rolls-Continue tt tt))))
+
   stmt_line_spelled : Holds (Sub AlwaysProper) (stmt_line_rule n stmt).spells
   unfolding stmt_line_rule
   stmt_line_spelled = choose block_stmt_spelled (choose empty_spelled (choose plain_spelled (choose print_spelled (choose choice_spelled
-      (choose loop_spelled (choose for_loop_spelled (choose parallel_spelled (choose parallel_for_spelled (choose spawned_spelled returned_spelled)))))))))
+      (choose loop_spelled (choose for_loop_spelled (choose parallel_spelled (choose parallel_for_spelled (choose spawned_spelled
+      (choose returned_spelled jump_spelled))))))))))
 
 stmt_spelled : (n : ℕ) → Holds (Sub AlwaysProper) (stmt_rule n).spells
 unfolding stmt_rule

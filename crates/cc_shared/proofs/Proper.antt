@@ -41,6 +41,8 @@ module _ (P : Stmt → Type 0) where
   ProperParts (StmtKind-F.If c first other) = Sub first × IfSome Sub other
   ProperParts (StmtKind-F.While c b) = Sub b
   ProperParts (StmtKind-F.For first c after b) = EachOf P first × IfSome Sub after × Sub b
+  ProperParts StmtKind-F.Break = Unit {0}
+  ProperParts StmtKind-F.Continue = Unit {0}
   ProperParts (StmtKind-F.Par bs) = EachOf Sub bs
   ProperParts (StmtKind-F.ParFor name start c after b) = Sub after × Sub b
   ProperParts (StmtKind-F.Spawn e) = Unit {0}
@@ -81,6 +83,8 @@ always_parts (StmtKind-F.If c first other) f = (always_sub first (λ d. (f d).0)
 always_parts (StmtKind-F.While c b) f = always_sub b f
 always_parts (StmtKind-F.For first c after b) f =
     (always_each IsProper first (λ d. (f d).0), always_some after (λ d. (f d).1), always_sub b (λ d. (f d).2))
+always_parts StmtKind-F.Break f = tt
+always_parts StmtKind-F.Continue f = tt
 always_parts (StmtKind-F.Par bs) f = always_subs bs f
 always_parts (StmtKind-F.ParFor name start c after b) f = (always_sub after (λ d. (f d).0), always_sub b (λ d. (f d).1))
 always_parts (StmtKind-F.Spawn e) f = tt

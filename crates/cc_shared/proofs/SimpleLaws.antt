@@ -8,6 +8,7 @@ use Rattle.cc_core.specs.declared.expression.Expression.TheVariants as e
 use Rattle.cc_core.specs.declared.expression.Expression.TheOpen.{Expression-F}
 use Rattle.cc_core.specs.declared.expression.How.{How}
 use Rattle.cc_core.specs.declared.expression.PrintPart.{PrintPart}
+use Rattle.cc_core.specs.declared.statement.Statement.{Statement}
 use Rattle.cc_core.specs.declared.statement.Statement.TheVariants as s
 use Rattle.cc_core.specs.Core.{Term}
 use Rattle.cc_core.specs.Types.{ValueType, NoValue, AnInt, AnAddress, FunctionTypes, Types}
@@ -27,7 +28,7 @@ use Rattle.cc_scopes.specs.declared.types.Ty.{Ty}
 use Rattle.cc_scopes.specs.declared.types.Ty.TheVariants as ty
 use Rattle.cc_scopes.specs.Scope.{Context}
 use Rattle.cc_elaboration.specs.Simple.{term_or_none, int_value, dropped, call, spawned_by, spawned, spawn, with_number, printed_value}
-use Rattle.cc_elaboration.specs.Simple.{printed_item, printed_from, share_print, prints_alone, print, note_if, is_void, return_value, return_from_void, return_some, return_nothing, returned, give}
+use Rattle.cc_elaboration.specs.Simple.{printed_item, printed_from, share_print, prints_alone, print, note_if, is_void, return_value, return_from_void, return_some, return_nothing, returned, give, jump}
 use Rattle.cc_shared.proofs.Runs.{IsThere, given, always, bind, next, after, done}
 use Rattle.cc_shared.proofs.Forms.{StmtFits, push_values, no_values, more_values, empty_fits, drop_fits, print_fits, return_fits}
 use Rattle.cc_shared.proofs.TypesOf.{target_type, value_type, target_of, IsCellType, IsResultType}
@@ -199,3 +200,10 @@ module _ (y : Types) (main : ℕ) (here : FunctionTypes) (F : Type 0) (grown ds 
     pub give_runs : (o : Option Expr) → Reads F grown ds part own ls (Unit {0}) (give cx o) (StmtFits y main here prints own)
     unfolding give
     give_runs o = having F grown ds part own ls (next (note_if_runs F grown ds part own ls cx cx.in_branch _) (given (λ x. x.1) (returned_runs o)))
+
+    -- ---- break and continue
+
+    pub jump_runs : (x : Statement) → StmtFits y main here prints own x → {P : Type 0}
+        → Reads F grown ds part own ls P (jump cx x) (StmtFits y main here prints own)
+    unfolding jump
+    jump_runs x f = next (note_if_runs F grown ds part own ls cx (not cx.in_loop) _) (done x (λ p. f))

@@ -8,7 +8,7 @@ use Rattle.cc_core.specs.declared.statement.Statement.TheVariants as s
 use Rattle.cc_core.specs.Core.{Stmt as CoreStmt}
 use Rattle.cc_core.specs.Types.{AnInt, FunctionTypes, Types, declares}
 use Rattle.cc_core.specs.View.{stmt_of}
-use Rattle.cc_core.proofs.ViewLaws.{empty_is, at_line_is, assign_is, drop_is, print_is, if_is, if_else_is, while_is, par_is, parfor_is, spawn_is, return_is, block_is}
+use Rattle.cc_core.proofs.ViewLaws.{empty_is, at_line_is, assign_is, drop_is, print_is, if_is, if_else_is, while_is, break_is, continue_is, par_is, parfor_is, spawn_is, return_is, block_is}
 use Rattle.cc_names.specs.Table.{Name}
 use Rattle.cc_names.specs.declared.rule.StaticRule.{StaticRule}
 use Rattle.cc_names.specs.declared.rule.StaticRule.TheVariants as r
@@ -33,18 +33,18 @@ use Rattle.cc_elaboration.specs.declared.assignments.Assignment.{Assignment}
 use Rattle.cc_elaboration.specs.Assignments.{assignment, stored, assign}
 use Rattle.cc_elaboration.specs.Declarations.{made, declaration}
 use Rattle.cc_elaboration.specs.Simple.{prints_alone, dropped, spawned_by, spawned, no_value}
-use Rattle.cc_elaboration.specs.Simple.{int_value, call as call_statement, print as print_statement, spawn as spawn_statement, is_void, return_value, return_from_void, return_some, returned, give}
-use Rattle.cc_elaboration.specs.Statements.{inside, branch, at_line, plain_int, assigned_value, names, step_value, condition}
+use Rattle.cc_elaboration.specs.Simple.{int_value, call as call_statement, print as print_statement, spawn as spawn_statement, is_void, return_value, return_from_void, return_some, returned, give, jump}
+use Rattle.cc_elaboration.specs.Statements.{inside, branch, repeating, between, at_line, plain_int, assigned_value, names, step_value, condition}
 use Rattle.cc_elaboration.specs.Statements.{statements_from, statements, block_of, open_block, body_by, body, if_only, both, if_else, choice, repeated, step, turn, counted, headed, loop_of}
 use Rattle.cc_elaboration.specs.Statements.{part, parts_from, parts, par, no_step, step_if, header_step_by, header_step, header_rest, header, copied, each, iterated, parfor}
 use Rattle.cc_elaboration.specs.Statements.{kind, kind_of, node, statement_to, statement, function_body}
 use Rattle.cc_shared.proofs.Runs.{IsThere}
-use Rattle.cc_shared.proofs.Forms.{StmtFits, StmtsFit, BranchesFit, declares_all, declares_more, one_more, one_branch, push_values, empty_fits, at_line_fits, if_fits, if_else_fits, while_fits, for_fits, par_fits, parfor_fits, block_fits}
+use Rattle.cc_shared.proofs.Forms.{StmtFits, StmtsFit, BranchesFit, declares_all, declares_more, one_more, one_branch, push_values, empty_fits, at_line_fits, if_fits, if_else_fits, while_fits, for_fits, break_fits, continue_fits, par_fits, parfor_fits, block_fits}
 use Rattle.cc_shared.proofs.TypesOf.{target_of}
 use Rattle.cc_shared.proofs.Det.{Stands, LocalsFit, Reads, Values}
 use Rattle.cc_shared.proofs.StateLaws.{not_empty}
 use Rattle.cc_shared.proofs.AssignmentLaws.{assign_runs}
-use Rattle.cc_shared.proofs.SimpleLaws.{int_value_runs, call_statement_runs, spawn_runs, print_runs, give_runs}
+use Rattle.cc_shared.proofs.SimpleLaws.{int_value_runs, call_statement_runs, spawn_runs, print_runs, give_runs, jump_runs}
 use Rattle.cc_shared.proofs.DeclaredLaws.{variable_runs}
 use Rattle.cc_shared.proofs.DeclarationLaws.{Makes, started_runs, bring_g, declare_g}
 use Rattle.cc_shared.proofs.HeaderLaws.{own_assignment_runs}
@@ -106,6 +106,13 @@ module _ (y : Types) (main : ℕ) (here : FunctionTypes) (F : Type 0) (ds : List
 
   scope_inside : (prints : Bool) (cx : Context) (start : ℕ) → Inside prints cx → Inside prints (inside cx start)
   scope_inside prints cx start i = record {
+    stands = λ f. let x = i.stands f in record { matches = x.matches; this = x.this; result = x.result; gives = x.gives; constants = x.constants };
+    alone = i.alone;
+    outside = i.outside;
+  }
+
+  loop_inside : (prints : Bool) (cx : Context) (repeats : Bool) → Inside prints cx → Inside prints (record cx { in_loop = repeats })
+  loop_inside prints cx repeats i = record {
     stands = λ f. let x = i.stands f in record { matches = x.matches; this = x.this; result = x.result; gives = x.gives; constants = x.constants };
     alone = i.alone;
     outside = i.outside;
@@ -200,6 +207,12 @@ module _ (y : Types) (main : ℕ) (here : FunctionTypes) (F : Type 0) (ds : List
     give_quiet : (cx : Context) (o : Option Expr) (own : List ℕ) (t : State) → declares (stmt_of (give cx o t).0) own ≡ own
     unfolding give
     give_quiet cx o own t = returned_quiet cx o own _
+
+    jump_g : (prints : Bool) (cx : Context) (own : List ℕ) (ls : List Local) → Inside prints cx → (x : Statement) → StmtFits y main here prints own x
+        → declares (stmt_of x) own ≡ own → Goes ds (Begins cx own ls) (jump cx x) (Stays prints cx own ls)
+    unfolding jump
+    jump_g prints cx own ls i x f same =
+        stays_g prints cx own ls (λ l. jump_runs y main here F ds ds cx.part own l cx i.stands vars prints x f) (λ t. same)
 
     longer : {n : ℕ} (ls : List Local) (l : Local) → n ≤ length ls → n ≤ length (ls ++ l ∷ [])
     longer ls l le = let a : length (ls ++ l ∷ []) ≡ length ls + 1 = length-append ls (l ∷ []) in omega (arith, a, le)
@@ -297,6 +310,8 @@ module _ (y : Types) (main : ℕ) (here : FunctionTypes) (F : Type 0) (ds : List
       body_by_g prints cx own ls i (StmtKind-F.If c first other) b p f = sub_body_g prints cx own ls i b p
       body_by_g prints cx own ls i (StmtKind-F.While c x) b p f = sub_body_g prints cx own ls i b p
       body_by_g prints cx own ls i (StmtKind-F.For first c after x) b p f = sub_body_g prints cx own ls i b p
+      body_by_g prints cx own ls i StmtKind-F.Break b p f = sub_body_g prints cx own ls i b p
+      body_by_g prints cx own ls i StmtKind-F.Continue b p f = sub_body_g prints cx own ls i b p
       body_by_g prints cx own ls i (StmtKind-F.Par bs) b p f = sub_body_g prints cx own ls i b p
       body_by_g prints cx own ls i (StmtKind-F.ParFor name start c after x) b p f = sub_body_g prints cx own ls i b p
       body_by_g prints cx own ls i (StmtKind-F.Spawn e) b p f = sub_body_g prints cx own ls i b p
@@ -343,7 +358,8 @@ module _ (y : Types) (main : ℕ) (here : FunctionTypes) (F : Type 0) (ds : List
         repeated_g : (prints : Bool) (cx : Context) (own : List ℕ) (ls : List Local) → Inside prints cx → (c : Expr) (b : Stmt) → Sub P b
             → Goes ds (Begins cx own ls) (repeated stmt cx c b) (Stays prints cx own ls)
         unfolding repeated
-        repeated_g prints cx own ls i c b p = bind_g (value_g prints cx own ls i c) (λ t. bind_g (frame_g (subs prints cx own ls i b p)) (λ x.
+        repeated_g prints cx own ls i c b p = bind_g (value_g prints cx own ls i c) (λ t. bind_g
+            (frame_g (subs prints (repeating cx) own ls (loop_inside prints cx true i) b p)) (λ x.
             done_g (s.While t x) (λ l q. ((q.0).0, while_fits y main here prints own t x AnInt q.1 (q.0).1, quiet own (s.While t x) _ (while_is t x) refl))))
 
         step_g : (prints : Bool) (cx : Context) (own : List ℕ) (ls : List Local) → Inside prints cx → (o : Option Stmt) → IfSome (Sub P) o
@@ -357,8 +373,9 @@ module _ (y : Types) (main : ℕ) (here : FunctionTypes) (F : Type 0) (ds : List
         turn_g : (prints : Bool) (cx : Context) (own : List ℕ) (ls : List Local) → Inside prints cx → (o : Option Stmt) (b : Stmt)
             → IfSome (Sub P) o → Sub P b → Goes ds (Begins cx own ls) (turn stmt cx o b) (Turns prints cx own ls)
         unfolding turn
-        turn_g prints cx own ls i o b p q = bind_g (step_g prints cx own ls i o p) (λ x.
-            bind_g (given_g (λ l r. (r.0, (r.1, r.2))) (frame_g {X = StmtFits y main here prints own x × (declares (stmt_of x) own ≡ own)} (body_g prints cx own ls i b q))) (λ z. done_g (x, z) (λ l r. (r.1, r.0))))
+        turn_g prints cx own ls i o b p q = bind_g (step_g prints (between cx) own ls (loop_inside prints cx false i) o p) (λ x.
+            bind_g (given_g (λ l r. (r.0, (r.1, r.2))) (frame_g {X = StmtFits y main here prints own x × (declares (stmt_of x) own ≡ own)} (body_g prints (repeating cx) own ls (loop_inside prints cx true i) b q)))
+            (λ z. done_g (x, z) (λ l r. (r.1, r.0))))
 
         counted_g : (prints : Bool) (cx : Context) (own : List ℕ) (ls : List Local) → Inside prints cx → (c : Option Expr) (o : Option Stmt) (b : Stmt)
             → IfSome (Sub P) o → Sub P b → Goes ds (Begins cx own ls) (counted stmt cx c o b) (Opens prints cx own ls)
@@ -467,6 +484,8 @@ module _ (y : Types) (main : ℕ) (here : FunctionTypes) (F : Type 0) (ds : List
         header_step_by_g prints cx own ls name k i (StmtKind-F.If c first other) b p = no_step_g prints cx own (Newest cx name k ls) i b p
         header_step_by_g prints cx own ls name k i (StmtKind-F.While c x) b p = no_step_g prints cx own (Newest cx name k ls) i b p
         header_step_by_g prints cx own ls name k i (StmtKind-F.For first c after x) b p = no_step_g prints cx own (Newest cx name k ls) i b p
+        header_step_by_g prints cx own ls name k i StmtKind-F.Break b p = no_step_g prints cx own (Newest cx name k ls) i b p
+        header_step_by_g prints cx own ls name k i StmtKind-F.Continue b p = no_step_g prints cx own (Newest cx name k ls) i b p
         header_step_by_g prints cx own ls name k i (StmtKind-F.Par bs) b p = no_step_g prints cx own (Newest cx name k ls) i b p
         header_step_by_g prints cx own ls name k i (StmtKind-F.ParFor text start c after x) b p = no_step_g prints cx own (Newest cx name k ls) i b p
         header_step_by_g prints cx own ls name k i (StmtKind-F.Spawn e) b p = no_step_g prints cx own (Newest cx name k ls) i b p
@@ -561,6 +580,10 @@ module _ (y : Types) (main : ℕ) (here : FunctionTypes) (F : Type 0) (ds : List
         sub_kind_g prints cx own ls i (StmtKind-F.If c first other) n p = choice_g prints cx own ls i c first other p.0 p.1
         sub_kind_g prints cx own ls i (StmtKind-F.While c b) n p = repeated_g prints cx own ls i c b p
         sub_kind_g prints cx own ls i (StmtKind-F.For first c after b) n p = loop_of_g prints cx own ls i first c after b p.0 p.1 p.2
+        sub_kind_g prints cx own ls i StmtKind-F.Break n p = jump_g prints cx own ls i s.Break (break_fits y main here prints own)
+            (quiet own s.Break _ break_is refl)
+        sub_kind_g prints cx own ls i StmtKind-F.Continue n p = jump_g prints cx own ls i s.Continue (continue_fits y main here prints own)
+            (quiet own s.Continue _ continue_is refl)
         sub_kind_g prints cx own ls i (StmtKind-F.Par bs) n p = par_g prints cx own ls i bs p
         sub_kind_g prints cx own ls i (StmtKind-F.ParFor name start c after b) n p = parfor_g prints cx own ls i name start c after b p.0 p.1
         sub_kind_g prints cx own ls i (StmtKind-F.Spawn e) n p =
@@ -579,6 +602,8 @@ module _ (y : Types) (main : ℕ) (here : FunctionTypes) (F : Type 0) (ds : List
         kind_g prints cx own ls i (StmtKind-F.If c first other) p = gives_g (adds prints cx own ls) (sub_kind_g prints cx own ls i (StmtKind-F.If c first other) tt p)
         kind_g prints cx own ls i (StmtKind-F.While c b) p = gives_g (adds prints cx own ls) (sub_kind_g prints cx own ls i (StmtKind-F.While c b) tt p)
         kind_g prints cx own ls i (StmtKind-F.For first c after b) p = gives_g (adds prints cx own ls) (sub_kind_g prints cx own ls i (StmtKind-F.For first c after b) tt p)
+        kind_g prints cx own ls i StmtKind-F.Break p = gives_g (adds prints cx own ls) (sub_kind_g prints cx own ls i StmtKind-F.Break tt p)
+        kind_g prints cx own ls i StmtKind-F.Continue p = gives_g (adds prints cx own ls) (sub_kind_g prints cx own ls i StmtKind-F.Continue tt p)
         kind_g prints cx own ls i (StmtKind-F.Par bs) p = gives_g (adds prints cx own ls) (sub_kind_g prints cx own ls i (StmtKind-F.Par bs) tt p)
         kind_g prints cx own ls i (StmtKind-F.ParFor name start c after b) p = gives_g (adds prints cx own ls) (sub_kind_g prints cx own ls i (StmtKind-F.ParFor name start c after b) tt p)
         kind_g prints cx own ls i (StmtKind-F.Spawn e) p = gives_g (adds prints cx own ls) (sub_kind_g prints cx own ls i (StmtKind-F.Spawn e) tt p)

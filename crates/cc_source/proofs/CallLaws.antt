@@ -14,6 +14,7 @@ use Rattle.cc_typing.specs.declared.calls.Callee.{Callee}
 use Rattle.cc_typing.specs.declared.calls.Callee.TheVariants as callee
 use Rattle.cc_scopes.specs.declared.meaning.Meaning.{Meaning}
 use Rattle.cc_scopes.specs.declared.meaning.Meaning.TheVariants as m
+use Rattle.cc_scopes.specs.declared.state.State.{State}
 use Rattle.cc_scopes.specs.declared.tables.Signature.{Signature}
 use Rattle.cc_scopes.specs.declared.typed.Operand.{Operand}
 use Rattle.cc_scopes.specs.declared.typed.Typed.{Typed}
@@ -24,7 +25,7 @@ use Rattle.cc_scopes.specs.Scope.{Context}
 use Rattle.cc_typing.specs.Calls.{no_args, object_passed, passed, with_arg, args_rule, callee_rule, rule_or, call_rule, is_remote, call_term, enter, entered}
 use Rattle.cc_typing.specs.Calls.{given as value_given, entered_unless, called_as, called, called_name, call_named}
 use Rattle.cc_source.proofs.Runs.{IfThere, Anything, given, next, done}
-use Rattle.cc_source.proofs.FitLaws.{width_of, one_more, call_fits, this_fits}
+use Rattle.cc_source.proofs.FitLaws.{width_of, before_them, one_more, call_fits, this_fits}
 use Rattle.cc_source.proofs.Fits.{ExpressionFits, ExpressionsFit}
 use Rattle.cc_source.proofs.Sound.{HasParams, Agree, Reads, OperandFits, TypedFits}
 use Rattle.cc_source.proofs.StateLaws.{block_runs, call_runs}
@@ -32,8 +33,8 @@ use Rattle.cc_source.proofs.ScopeLaws.{broken_runs, decay_runs}
 
 -- ---- arguments
 
-abbrev pub ArgsFit : Shapes → ℕ → Args → Type 0
-ArgsFit h n a = ExpressionsFit h n a.terms × (length a.types ≡ length a.terms)
+abbrev pub ArgsFit : Shapes → State → Args → Type 0
+ArgsFit h last a = ExpressionsFit h last a.terms × (length a.types ≡ length a.terms)
 
 same_more : {A B : Type 0} (xs : List A) (ys : List B) (x : A) (y : B) → length xs ≡ length ys → length (xs ++ x ∷ []) ≡ length (ys ++ y ∷ [])
 same_more xs ys x y is =
@@ -41,24 +42,24 @@ same_more xs ys x y is =
     let b : length (ys ++ y ∷ []) ≡ length ys + 1 = length-append ys (y ∷ []) in
     omega (arith, a, b, is)
 
-pub no_args_fit : (h : Shapes) (n : ℕ) → ArgsFit h n no_args
-no_args_fit h n = (tt, refl)
+pub no_args_fit : (h : Shapes) (last : State) → ArgsFit h last no_args
+no_args_fit h last = ((tt, tt), refl)
 
-pub with_arg_fits : (h : Shapes) (n : ℕ) (a : Option Args) (v : Option Operand) → IfThere (ArgsFit h n) a → IfThere (OperandFits h n) v
-    → IfThere (ArgsFit h n) (with_arg a v)
-with_arg_fits h n None v p q = tt
-with_arg_fits h n (Some a) None p q = tt
-with_arg_fits h n (Some a) (Some v) p q = (one_more h n a.terms v.term p.0 q, same_more a.types a.terms v.ty v.term p.1)
+pub with_arg_fits : (h : Shapes) (last : State) (a : Option Args) (v : Option Operand) → IfThere (ArgsFit h last) a → IfThere (OperandFits h last) v
+    → IfThere (ArgsFit h last) (with_arg a v)
+with_arg_fits h last None v p q = tt
+with_arg_fits h last (Some a) None p q = tt
+with_arg_fits h last (Some a) (Some v) p q = (one_more h last a.terms v.term p.0 q, same_more a.types a.terms v.ty v.term p.1)
 
-pub passed_runs : (h : Shapes) (n : ℕ) (cx : Context) (t : Typed) → Reads n (TypedFits h n t) (passed cx t) (IfThere (OperandFits h n))
-passed_runs h n cx (typed.Object o) = done (Some (object_passed o)) (λ x. x)
-passed_runs h n cx typed.Broken = decay_runs h n cx typed.Broken
-passed_runs h n cx typed.Spoiled = decay_runs h n cx typed.Spoiled
-passed_runs h n cx (typed.Value v) = decay_runs h n cx (typed.Value v)
-passed_runs h n cx (typed.This class remote) = decay_runs h n cx (typed.This class remote)
-passed_runs h n cx (typed.Constant term value) = decay_runs h n cx (typed.Constant term value)
-passed_runs h n cx (typed.Place p) = decay_runs h n cx (typed.Place p)
-passed_runs h n cx (typed.Array p k) = decay_runs h n cx (typed.Array p k)
+pub passed_runs : (h : Shapes) (last : State) (cx : Context) (t : Typed) → Reads last (TypedFits h last t) (passed cx t) (IfThere (OperandFits h last))
+passed_runs h last cx (typed.Object o) = done (Some (object_passed o)) (λ x. x)
+passed_runs h last cx typed.Broken = decay_runs h last cx typed.Broken
+passed_runs h last cx typed.Spoiled = decay_runs h last cx typed.Spoiled
+passed_runs h last cx (typed.Value v) = decay_runs h last cx (typed.Value v)
+passed_runs h last cx (typed.This class remote) = decay_runs h last cx (typed.This class remote)
+passed_runs h last cx (typed.Constant term value) = decay_runs h last cx (typed.Constant term value)
+passed_runs h last cx (typed.Place p) = decay_runs h last cx (typed.Place p)
+passed_runs h last cx (typed.Array p k) = decay_runs h last cx (typed.Array p k)
 
 -- ---- the rules of a call
 
@@ -79,70 +80,70 @@ call_counted g remote types none = args_counted g.params types (first_none (args
 
 -- ---- a call
 
-abbrev pub CalleeFits : Shapes → ℕ → Callee → Type 0
-CalleeFits h n callee.Alone = Unit {0}
-CalleeFits h n (callee.On object) = ExpressionFits h n object
-CalleeFits h n (callee.Remote object) = ExpressionFits h n object
+abbrev pub CalleeFits : Shapes → State → Callee → Type 0
+CalleeFits h last callee.Alone = Unit {0}
+CalleeFits h last (callee.On object) = ExpressionFits h last object
+CalleeFits h last (callee.Remote object) = ExpressionFits h last object
 
-module _ (h : Shapes) (n : ℕ) (cx : Context) where
+module _ (h : Shapes) (last : State) (cx : Context) where
   counted_alone : (w k a : ℕ) → w ≡ k → a ≡ k → w ≡ 0 + a
   counted_alone w k a p q = omega (arith, p, q)
 
   counted_on : (w k a : ℕ) → w ≡ k → a ≡ k → suc w ≡ 1 + a
   counted_on w k a p q = omega (arith, p, q)
 
-  call_term_fits : (f : FunId) (c : Callee) (g : Signature) (es : List Expression) → HasParams h f.0 g → CalleeFits h n c → ExpressionsFit h n es
-      → length es ≡ length g.params → ExpressionFits h n (call_term f c es)
+  call_term_fits : (f : FunId) (c : Callee) (g : Signature) (es : List Expression) → HasParams h f.0 g → CalleeFits h last c → ExpressionsFit h last es
+      → length es ≡ length g.params → ExpressionFits h last (call_term f c es)
   call_term_fits f callee.Alone g es has p q is =
-      call_fits h n how.Alone f.0 es q (has.0, counted_alone _ _ _ (width_of es ∙ is) has.1)
+      call_fits h last how.Alone f.0 es q (has.0, counted_alone _ _ _ (width_of es ∙ is) has.1)
   call_term_fits f (callee.On x) g es has p q is =
-      call_fits h n how.On f.0 (x ∷ es) (p, q) (has.0, counted_on _ _ _ (width_of es ∙ is) has.1)
+      call_fits h last how.On f.0 (x ∷ es) (before_them h last x es p q) (has.0, counted_on _ _ _ (width_of es ∙ is) has.1)
   call_term_fits f (callee.Remote x) g es has p q is =
-      call_fits h n how.Remote f.0 (x ∷ es) (p, q) (has.0, counted_on _ _ _ (width_of es ∙ is) has.1)
+      call_fits h last how.Remote f.0 (x ∷ es) (before_them h last x es p q) (has.0, counted_on _ _ _ (width_of es ∙ is) has.1)
 
-  given_fits : (t : Ty) (x : Expression) → ExpressionFits h n x → TypedFits h n (value_given t x)
+  given_fits : (t : Ty) (x : Expression) → ExpressionFits h last x → TypedFits h last (value_given t x)
   given_fits ty.Unknown x p = tt
   given_fits ty.Int x p = p
   given_fits ty.Null x p = p
   given_fits ty.Void x p = p
   given_fits (ty.Pointer to remote) x p = p
 
-  enter_runs : (f : FunId) (b : Bool) {P : Type 0} → Reads n P (enter cx f b) Anything
-  enter_runs f true = block_runs n cx.line
-  enter_runs f false = call_runs n f cx.line
+  enter_runs : (f : FunId) (b : Bool) {P : Type 0} → Reads last P (enter cx f b) Anything
+  enter_runs f true = block_runs last cx.line
+  enter_runs f false = call_runs last f cx.line
 
   abbrev Given : Callee → List Ty → List Expression → Type 0
-  Given c types es = CalleeFits h n c × ArgsFit h n (record { types = types; terms = es })
+  Given c types es = CalleeFits h last c × ArgsFit h last (record { types = types; terms = es })
 
   entered_runs : (f : FunId) (g : Signature) (c : Callee) (types : List Ty) (es : List Expression) → HasParams h f.0 g
-      → length types ≡ length g.params → Reads n (Given c types es) (entered cx f g.result c es) (TypedFits h n)
+      → length types ≡ length g.params → Reads last (Given c types es) (entered cx f g.result c es) (TypedFits h last)
   unfolding entered
   entered_runs f g c types es has is = next (enter_runs f (is_remote c)) (done (value_given g.result (call_term f c es)) (λ x.
       given_fits g.result _ (call_term_fits f c g es has x.0 x.1.0 (sym x.1.1 ∙ is))))
 
   entered_unless_runs : (r : Option StaticRule) (f : FunId) (g : Signature) (c : Callee) (types : List Ty) (es : List Expression) → HasParams h f.0 g
-      → call_rule g (is_remote c) types ≡ r → Reads n (Given c types es) (entered_unless r cx f g.result c es) (TypedFits h n)
-  entered_unless_runs (Some rule) f g c types es has is = broken_runs h n cx rule
+      → call_rule g (is_remote c) types ≡ r → Reads last (Given c types es) (entered_unless r cx f g.result c es) (TypedFits h last)
+  entered_unless_runs (Some rule) f g c types es has is = broken_runs h last cx rule
   entered_unless_runs None f g c types es has is = entered_runs f g c types es has (call_counted g (is_remote c) types is)
 
   module _ (agree : Agree h cx.tables) where
     called_as_runs : (o : Option Signature) (f : FunId) (c : Callee) (a : Args) → slice_get cx.tables.functions f.0 ≡ o
-        → Reads n (CalleeFits h n c × ArgsFit h n a) (called_as o cx f c a) (TypedFits h n)
-    called_as_runs None f c a is = broken_runs h n cx _
+        → Reads last (CalleeFits h last c × ArgsFit h last a) (called_as o cx f c a) (TypedFits h last)
+    called_as_runs None f c a is = broken_runs h last cx _
     called_as_runs (Some g) f c a is =
         entered_unless_runs (call_rule g (is_remote c) a.types) f g c a.types a.terms (agree.functions f.0 g is) refl
 
-    pub called_runs : (f : FunId) (c : Callee) (a : Args) → Reads n (CalleeFits h n c × ArgsFit h n a) (called cx f c a) (TypedFits h n)
+    pub called_runs : (f : FunId) (c : Callee) (a : Args) → Reads last (CalleeFits h last c × ArgsFit h last a) (called cx f c a) (TypedFits h last)
     called_runs f c a = called_as_runs (slice_get cx.tables.functions f.0) f c a refl
 
-    called_name_runs : (x : Meaning) (a : Args) → Reads n (ArgsFit h n a) (called_name cx x a) (TypedFits h n)
-    called_name_runs (m.Variable found) a = broken_runs h n cx _
-    called_name_runs (m.Field declared offset) a = broken_runs h n cx _
-    called_name_runs (m.Method f) a = given (λ x. (this_fits h n, x)) (called_runs f (callee.On e.This) a)
-    called_name_runs (m.Constant b z) a = broken_runs h n cx _
+    called_name_runs : (x : Meaning) (a : Args) → Reads last (ArgsFit h last a) (called_name cx x a) (TypedFits h last)
+    called_name_runs (m.Variable found) a = broken_runs h last cx _
+    called_name_runs (m.Field declared offset) a = broken_runs h last cx _
+    called_name_runs (m.Method f) a = given (λ x. (this_fits h last, x)) (called_runs f (callee.On e.This) a)
+    called_name_runs (m.Constant b z) a = broken_runs h last cx _
     called_name_runs (m.Function f) a = given (λ x. (tt, x)) (called_runs f callee.Alone a)
-    called_name_runs m.Nothing a = broken_runs h n cx _
+    called_name_runs m.Nothing a = broken_runs h last cx _
 
-    pub call_named_runs : (x : Meaning) (a : Option Args) → Reads n (IfThere (ArgsFit h n) a) (call_named cx x a) (TypedFits h n)
+    pub call_named_runs : (x : Meaning) (a : Option Args) → Reads last (IfThere (ArgsFit h last) a) (call_named cx x a) (TypedFits h last)
     call_named_runs x None = done typed.Spoiled (λ p. tt)
     call_named_runs x (Some a) = called_name_runs x a

@@ -11,6 +11,7 @@ use Rattle.cc_tree.specs.declared.statements.Base.{Base}
 use Rattle.cc_tree.specs.declared.statements.Base.TheVariants as base
 use Rattle.cc_tree.specs.declared.statements.Decl.{Decl}
 use Rattle.cc_tree.specs.declared.statements.TypeName.{TypeName}
+use Rattle.cc_scopes.specs.declared.state.State.{State}
 use Rattle.cc_scopes.specs.declared.types.Declared.{Declared}
 use Rattle.cc_scopes.specs.declared.types.Shape.{Shape}
 use Rattle.cc_scopes.specs.declared.types.Shape.TheVariants as shape
@@ -31,11 +32,11 @@ use Rattle.cc_source.proofs.ExpressionLaws.{array_length_runs}
 abbrev pub DeclaredFits : Declared → Type 0
 DeclaredFits d = HasCells d.shape
 
-module _ (h : Shapes) (n : ℕ) (cx : Context) where
-  no_type_runs : (rule : StaticRule) {P : Type 0} → Reads n P (no_type cx rule) DeclaredFits
-  no_type_runs rule = next (note_rule_runs h n cx rule) (done unknown (λ x. tt))
+module _ (h : Shapes) (last : State) (cx : Context) where
+  no_type_runs : (rule : StaticRule) {P : Type 0} → Reads last P (no_type cx rule) DeclaredFits
+  no_type_runs rule = next (note_rule_runs h last cx rule) (done unknown (λ x. tt))
 
-  void_type_runs : (b : Bool) {P : Type 0} → Reads n P (void_type b cx) DeclaredFits
+  void_type_runs : (b : Bool) {P : Type 0} → Reads last P (void_type b cx) DeclaredFits
   void_type_runs true = no_type_runs _
   void_type_runs false = done (cell ty.Void false) (λ x. tt)
 
@@ -45,11 +46,11 @@ module _ (h : Shapes) (n : ℕ) (cx : Context) where
   class_type_fits : (class : ClassId) (t : TypeName) → DeclaredFits (class_type class t)
   class_type_fits class t = either DeclaredFits t.star (pointer (target.Class class) t) (object class) tt tt
 
-  class_or_none_runs : (o : Option ClassId) (t : TypeName) {P : Type 0} → Reads n P (class_or_none o cx t) DeclaredFits
+  class_or_none_runs : (o : Option ClassId) (t : TypeName) {P : Type 0} → Reads last P (class_or_none o cx t) DeclaredFits
   class_or_none_runs None t = no_type_runs _
   class_or_none_runs (Some class) t = done (class_type class t) (λ x. class_type_fits class t)
 
-  written_by_runs : (b : Base) (t : TypeName) {P : Type 0} → Reads n P (written_by b cx t) DeclaredFits
+  written_by_runs : (b : Base) (t : TypeName) {P : Type 0} → Reads last P (written_by b cx t) DeclaredFits
   written_by_runs base.Void t = void_type_runs t.star
   written_by_runs base.Int t = done (int_type false t) (λ x. int_type_fits false t)
   written_by_runs base.SyncInt t = done (int_type true t) (λ x. int_type_fits true t)
@@ -62,11 +63,11 @@ module _ (h : Shapes) (n : ℕ) (cx : Context) where
   kept_by_fits (ty.Pointer to remote) d p = p
   kept_by_fits ty.Unknown d p = p
 
-  checked_runs : (b : Bool) (d : Declared) → Reads n (DeclaredFits d) (checked b cx d) DeclaredFits
+  checked_runs : (b : Bool) (d : Declared) → Reads last (DeclaredFits d) (checked b cx d) DeclaredFits
   checked_runs true d = done d (λ x. x)
-  checked_runs false d = next (note_rule_runs h n cx _) (done (kept_by d.ty d) (λ x. kept_by_fits d.ty d x))
+  checked_runs false d = next (note_rule_runs h last cx _) (done (kept_by d.ty d) (λ x. kept_by_fits d.ty d x))
 
-  pub typed_as_runs : (role : Role) (t : TypeName) {P : Type 0} → Reads n P (typed_as role cx t) DeclaredFits
+  pub typed_as_runs : (role : Role) (t : TypeName) {P : Type 0} → Reads last P (typed_as role cx t) DeclaredFits
   unfolding typed_as
   typed_as_runs role t = bind (written_by_runs t.base t) (λ d. given (λ x. x.1) (checked_runs (is_allowed role cx d) d))
 
@@ -76,32 +77,32 @@ module _ (h : Shapes) (n : ℕ) (cx : Context) where
   known_above None p = (omega arith, omega arith)
   known_above (Some k) p = p
 
-  arrayed_by_runs : (s : Shape) (d : Declared) (k : Option ℕ) → Reads n (IfThere IsLength k) (arrayed_by s cx d k) DeclaredFits
+  arrayed_by_runs : (s : Shape) (d : Declared) (k : Option ℕ) → Reads last (IfThere IsLength k) (arrayed_by s cx d k) DeclaredFits
   arrayed_by_runs (shape.Object class) d k = no_type_runs _
   arrayed_by_runs shape.Cell d k = done (array_of k d) (λ x. known_above k x)
   arrayed_by_runs (shape.Array m) d k = done (array_of k d) (λ x. known_above k x)
 
   module _ (agree : Agree h cx.tables) where
-    arrayed_runs : (d : Declared) (e : Expr) → Reads n (Unit {0}) (arrayed cx d e) DeclaredFits
+    arrayed_runs : (d : Declared) (e : Expr) → Reads last (Unit {0}) (arrayed cx d e) DeclaredFits
     unfolding arrayed
-    arrayed_runs d e = bind (array_length_runs h n cx agree e) (λ k. given (λ x. x.1) (arrayed_by_runs d.shape d k))
+    arrayed_runs d e = bind (array_length_runs h last cx agree e) (λ k. given (λ x. x.1) (arrayed_by_runs d.shape d k))
 
-    with_length_runs : (d : Declared) (o : Option Expr) → Reads n (DeclaredFits d) (with_length cx d o) DeclaredFits
+    with_length_runs : (d : Declared) (o : Option Expr) → Reads last (DeclaredFits d) (with_length cx d o) DeclaredFits
     with_length_runs d None = done d (λ x. x)
     with_length_runs d (Some e) = always (arrayed_runs d e)
 
-    pub slot_runs : (role : Role) (d : Decl) {P : Type 0} → Reads n P (slot role cx d) DeclaredFits
+    pub slot_runs : (role : Role) (d : Decl) {P : Type 0} → Reads last P (slot role cx d) DeclaredFits
     unfolding slot
     slot_runs role d = bind (typed_as_runs role d.ty) (λ t. given (λ x. x.1) (with_length_runs t d.length))
 
-    pub variable_runs : (d : Decl) {P : Type 0} → Reads n P (variable cx d) DeclaredFits
+    pub variable_runs : (d : Decl) {P : Type 0} → Reads last P (variable cx d) DeclaredFits
     variable_runs d = slot_runs role.Variable d
 
-    pub field_runs : (d : Decl) {P : Type 0} → Reads n P (field cx d) DeclaredFits
+    pub field_runs : (d : Decl) {P : Type 0} → Reads last P (field cx d) DeclaredFits
     field_runs d = slot_runs role.Field d
 
-  pub parameter_runs : (t : TypeName) {P : Type 0} → Reads n P (parameter cx t) DeclaredFits
+  pub parameter_runs : (t : TypeName) {P : Type 0} → Reads last P (parameter cx t) DeclaredFits
   parameter_runs t = typed_as_runs role.Parameter t
 
-  pub returned_runs : (t : TypeName) {P : Type 0} → Reads n P (returned cx t) DeclaredFits
+  pub returned_runs : (t : TypeName) {P : Type 0} → Reads last P (returned cx t) DeclaredFits
   returned_runs t = typed_as_runs role.Result t

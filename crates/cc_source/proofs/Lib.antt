@@ -1,3 +1,4 @@
+pub mod RuleLaws
 pub mod Runs
 pub mod Fits
 pub mod FitLaws
@@ -15,7 +16,7 @@ pub mod SimpleLaws
 pub mod StatementLaws
 pub mod Makes
 pub mod FunctionLaws
-pub mod RuleLaws
+pub mod CleanLaws
 pub mod CountLaws
 pub mod ItemLaws
 pub mod TableLaws

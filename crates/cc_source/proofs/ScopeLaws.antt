@@ -42,7 +42,7 @@ use Rattle.cc_scopes.specs.Meaning.{of_constant, of_variable, own_field, of_mean
 use Rattle.cc_scopes.specs.Lengths.{no_length, natural, length_in_range, value_length, length_of, no_value, value_or_fault, constant_of}
 use Rattle.cc_source.proofs.Runs.{IfThere, Anything, given, next, done, looking}
 use Rattle.cc_source.proofs.FitLaws.{push_fits, this_fits, variable_fits, member_fits, load_fits}
-use Rattle.cc_source.proofs.Fits.{ExpressionFits}
+use Rattle.cc_source.proofs.Fits.{Clean, ExpressionFits}
 use Rattle.cc_source.proofs.Sound.{IsLength, HasCells, MemberHasCells, Agree, FoundFits, MeaningFits, Keeps, Reads, OperandFits, TypedFits}
 use Rattle.cc_source.proofs.StateLaws.{found_fits, note_runs, share_runs, block_if_runs}
 
@@ -64,152 +64,152 @@ module _ (h : Shapes) (cx : Context) (agree : Agree h cx.tables) where
   pub member_fits_cells : (class : ClassId) (text : Name) → IfThere MemberHasCells (member_of cx class text)
   member_fits_cells class text = member_by_id class (member_named cx.names class text)
 
-  module _ (n : ℕ) where
-    of_member_fits : (x : Member) → MemberHasCells x → MeaningFits n (of_member x)
+  module _ (last : State) where
+    of_member_fits : (x : Member) → MemberHasCells x → MeaningFits last (of_member x)
     of_member_fits (member.Field declared offset) p = p
     of_member_fits (member.Method f) p = tt
 
-    of_entity_fits : (x : Option Entity) → MeaningFits n (of_entity cx x)
+    of_entity_fits : (x : Option Entity) → MeaningFits last (of_entity cx x)
     of_entity_fits None = tt
     of_entity_fits (Some (entity.Constant k)) = tt
     of_entity_fits (Some (entity.Class class)) = tt
     of_entity_fits (Some (entity.Function f)) = tt
 
-    of_file_fits : (text : Name) → MeaningFits n (of_file cx text)
+    of_file_fits : (text : Name) → MeaningFits last (of_file cx text)
     of_file_fits text = of_entity_fits (entity_named cx.names text)
 
-    member_or_file_fits : (x : Option Member) (text : Name) → IfThere MemberHasCells x → MeaningFits n (member_or_file x cx text)
+    member_or_file_fits : (x : Option Member) (text : Name) → IfThere MemberHasCells x → MeaningFits last (member_or_file x cx text)
     member_or_file_fits None text p = of_file_fits text
     member_or_file_fits (Some x) text p = of_member_fits x p
 
-    outside_fits : (class : Option ClassId) (text : Name) → MeaningFits n (outside_by class cx text)
+    outside_fits : (class : Option ClassId) (text : Name) → MeaningFits last (outside_by class cx text)
     outside_fits None text = of_file_fits text
     outside_fits (Some class) text = member_or_file_fits (member_of cx class text) text (member_fits_cells class text)
 
-    variable_or_fits : (x : Option Found) (text : Name) → IfThere (FoundFits n) x → MeaningFits n (variable_or x cx text)
+    variable_or_fits : (x : Option Found) (text : Name) → IfThere (FoundFits last) x → MeaningFits last (variable_or x cx text)
     variable_or_fits None text p = outside_fits cx.class text
     variable_or_fits (Some x) text p = p
 
-    pub meant_fits : (text : Name) (s : State) → Keeps n s → MeaningFits n (meant cx text s)
-    meant_fits text s k = variable_or_fits (variable text s.locals) text (found_fits n text s.locals k)
+    pub meant_fits : (text : Name) (s : State) → Keeps last s → MeaningFits last (meant cx text s)
+    meant_fits text s k = variable_or_fits (variable text s.locals) text (found_fits last text s.locals k)
 
-    meant_in_by : (x : Option Member) → IfThere MemberHasCells x → MeaningFits n (meant_in x)
+    meant_in_by : (x : Option Member) → IfThere MemberHasCells x → MeaningFits last (meant_in x)
     meant_in_by None p = tt
     meant_in_by (Some x) p = of_member_fits x p
 
-    pub meant_in_fits : (class : ClassId) (text : Name) → MeaningFits n (meant_in (member_of cx class text))
+    pub meant_in_fits : (class : ClassId) (text : Name) → MeaningFits last (meant_in (member_of cx class text))
     meant_in_fits class text = meant_in_by (member_of cx class text) (member_fits_cells class text)
 
 -- ---- rules that are broken
 
-module _ (h : Shapes) (n : ℕ) (cx : Context) {P : Type 0} where
-  pub note_rule_runs : (rule : StaticRule) → Reads n P (note_rule cx rule) Anything
-  note_rule_runs rule = note_runs n (Rule rule cx.line)
+module _ (h : Shapes) (last : State) (cx : Context) {P : Type 0} where
+  pub note_rule_runs : (rule : StaticRule) → Reads last P (note_rule cx rule) (λ u. Clean last → ⊥)
+  note_rule_runs rule = note_runs last (Rule rule cx.line)
 
-  pub broken_runs : (rule : StaticRule) → Reads n P (broken cx rule) (TypedFits h n)
+  pub broken_runs : (rule : StaticRule) → Reads last P (broken cx rule) (TypedFits h last)
   broken_runs rule = next (note_rule_runs rule) (done typed.Broken (λ x. tt))
 
-  pub no_operand_runs : (rule : StaticRule) → Reads n P (no_operand cx rule) (IfThere (OperandFits h n))
+  pub no_operand_runs : (rule : StaticRule) → Reads last P (no_operand cx rule) (IfThere (OperandFits h last))
   no_operand_runs rule = next (note_rule_runs rule) (done None (λ x. tt))
 
 -- ---- what stands at an address
 
-module _ (h : Shapes) (n : ℕ) where
-  placed_by_fits : (shape : Shape) (p : Place) → HasCells shape → ExpressionFits h n p.address → TypedFits h n (placed_by shape p)
+module _ (h : Shapes) (last : State) where
+  placed_by_fits : (shape : Shape) (p : Place) → HasCells shape → ExpressionFits h last p.address → TypedFits h last (placed_by shape p)
   placed_by_fits shape.Cell p c f = f
   placed_by_fits (shape.Array m) p c f = (f, c.0)
   placed_by_fits (shape.Object class) p c f = f
 
-  placed_as_fits : (t : Ty) (shape : Shape) (p : Place) → HasCells shape → ExpressionFits h n p.address → TypedFits h n (placed_as t shape p)
+  placed_as_fits : (t : Ty) (shape : Shape) (p : Place) → HasCells shape → ExpressionFits h last p.address → TypedFits h last (placed_as t shape p)
   placed_as_fits ty.Unknown shape p c f = tt
   placed_as_fits ty.Int shape p c f = placed_by_fits shape p c f
   placed_as_fits ty.Null shape p c f = placed_by_fits shape p c f
   placed_as_fits ty.Void shape p c f = placed_by_fits shape p c f
   placed_as_fits (ty.Pointer to remote) shape p c f = placed_by_fits shape p c f
 
-  pub placed_fits : (x : _) (d : Declared) (remote : Bool) (root : Root) → HasCells d.shape → ExpressionFits h n x → TypedFits h n (placed x d remote root)
+  pub placed_fits : (x : _) (d : Declared) (remote : Bool) (root : Root) → HasCells d.shape → ExpressionFits h last x → TypedFits h last (placed x d remote root)
   placed_fits x d remote root c f = placed_as_fits d.ty d.shape (place_of x d remote root) c f
 
-  pub literal_fits : (z : ℤ) → TypedFits h n (literal z)
-  literal_fits z = push_fits h n (constant.Int z)
+  pub literal_fits : (z : ℤ) → TypedFits h last (literal z)
+  literal_fits z = push_fits h last (constant.Int z)
 
 -- ---- values
 
-module _ (h : Shapes) (n : ℕ) (cx : Context) where
-  load_runs : (p : Place) → Reads n (ExpressionFits h n p.address) (load cx p) (IfThere (OperandFits h n))
+module _ (h : Shapes) (last : State) (cx : Context) where
+  load_runs : (p : Place) → Reads last (ExpressionFits h last p.address) (load cx p) (IfThere (OperandFits h last))
   unfolding load
-  load_runs p = next (block_if_runs n (may_wait p) cx.line) (done (Some (loaded p)) (λ x. load_fits h n p.remote p.address x))
+  load_runs p = next (block_if_runs last (may_wait p) cx.line) (done (Some (loaded p)) (λ x. load_fits h last p.remote p.address x))
 
-  load_unless_runs : (b : Bool) (p : Place) → Reads n (ExpressionFits h n p.address) (load_unless b cx p) (IfThere (OperandFits h n))
-  load_unless_runs true p = no_operand_runs h n cx _
+  load_unless_runs : (b : Bool) (p : Place) → Reads last (ExpressionFits h last p.address) (load_unless b cx p) (IfThere (OperandFits h last))
+  load_unless_runs true p = no_operand_runs h last cx _
   load_unless_runs false p = load_runs p
 
-  pub share_address_runs : (sync : Bool) {P : Type 0} → Reads n P (share_address sync cx) Anything
+  pub share_address_runs : (sync : Bool) {P : Type 0} → Reads last P (share_address sync cx) Anything
   share_address_runs true = done tt (λ x. tt)
-  share_address_runs false = share_runs n _ _
+  share_address_runs false = share_runs last _ _
 
-  pointed_runs : (p : Place) → Reads n (ExpressionFits h n p.address) (pointed cx p) (IfThere (OperandFits h n))
+  pointed_runs : (p : Place) → Reads last (ExpressionFits h last p.address) (pointed cx p) (IfThere (OperandFits h last))
   unfolding pointed
   pointed_runs p = next (share_address_runs p.sync) (done (Some (pointer_to p)) (λ x. x))
 
-  first_unless_runs : (o : Option StaticRule) (p : Place) → Reads n (ExpressionFits h n p.address) (first_unless o cx p) (IfThere (OperandFits h n))
-  first_unless_runs (Some rule) p = no_operand_runs h n cx rule
+  first_unless_runs : (o : Option StaticRule) (p : Place) → Reads last (ExpressionFits h last p.address) (first_unless o cx p) (IfThere (OperandFits h last))
+  first_unless_runs (Some rule) p = no_operand_runs h last cx rule
   first_unless_runs None p = pointed_runs p
 
-  not_void_runs : (t : Ty) (v : Operand) → Reads n (OperandFits h n v) (not_void_by t cx v) (IfThere (OperandFits h n))
-  not_void_runs ty.Void v = no_operand_runs h n cx _
+  not_void_runs : (t : Ty) (v : Operand) → Reads last (OperandFits h last v) (not_void_by t cx v) (IfThere (OperandFits h last))
+  not_void_runs ty.Void v = no_operand_runs h last cx _
   not_void_runs ty.Int v = done (Some v) (λ x. x)
   not_void_runs ty.Null v = done (Some v) (λ x. x)
   not_void_runs ty.Unknown v = done (Some v) (λ x. x)
   not_void_runs (ty.Pointer to remote) v = done (Some v) (λ x. x)
 
-  pub decay_runs : (t : Typed) → Reads n (TypedFits h n t) (decay cx t) (IfThere (OperandFits h n))
+  pub decay_runs : (t : Typed) → Reads last (TypedFits h last t) (decay cx t) (IfThere (OperandFits h last))
   decay_runs typed.Broken = done None (λ x. tt)
   decay_runs typed.Spoiled = done None (λ x. tt)
   decay_runs (typed.Value v) = not_void_runs v.ty v
-  decay_runs (typed.This class remote) = done (Some (own class remote)) (λ x. this_fits h n)
+  decay_runs (typed.This class remote) = done (Some (own class remote)) (λ x. this_fits h last)
   decay_runs (typed.Constant term value) = done (Some (int term)) (λ x. x)
   decay_runs (typed.Place p) = load_unless_runs (is_far_local p) p
   decay_runs (typed.Array p m) = given (λ x. x.0) (first_unless_runs (array_rule p.ty p.root) p)
-  decay_runs (typed.Object o) = no_operand_runs h n cx _
+  decay_runs (typed.Object o) = no_operand_runs h last cx _
 
   -- ---- names
 
-  of_constant_fits : (b : Bool) (z : Option ℤ) → TypedFits h n (of_constant b z)
+  of_constant_fits : (b : Bool) (z : Option ℤ) → TypedFits h last (of_constant b z)
   of_constant_fits true None = tt
-  of_constant_fits true (Some z) = literal_fits h n z
-  of_constant_fits false None = push_fits h n (constant.Int (pos 0))
-  of_constant_fits false (Some z) = push_fits h n (constant.Int z)
+  of_constant_fits true (Some z) = literal_fits h last z
+  of_constant_fits false None = push_fits h last (constant.Int (pos 0))
+  of_constant_fits false (Some z) = push_fits h last (constant.Int z)
 
-  of_variable_fits : (f : Found) → FoundFits n f → TypedFits h n (of_variable f)
-  of_variable_fits f p = placed_fits h n (e.Variable f.number) f.declared false (root.Variable f.part) p.1 (variable_fits h n f.number p.0)
+  of_variable_fits : (f : Found) → FoundFits last f → TypedFits h last (of_variable f)
+  of_variable_fits f p = placed_fits h last (e.Variable f.number) f.declared false (root.Variable f.part) p.1 (variable_fits h last f.number p.0)
 
-  own_field_fits : (d : Declared) (o : ℕ) → HasCells d.shape → TypedFits h n (own_field d o)
-  own_field_fits d o c = placed_fits h n (e.Member e.This o) d false root.Member c (member_fits h n e.This o (this_fits h n))
+  own_field_fits : (d : Declared) (o : ℕ) → HasCells d.shape → TypedFits h last (own_field d o)
+  own_field_fits d o c = placed_fits h last (e.Member e.This o) d false root.Member c (member_fits h last e.This o (this_fits h last))
 
-  pub of_meaning_runs : (x : Meaning) → Reads n (MeaningFits n x) (of_meaning cx x) (TypedFits h n)
+  pub of_meaning_runs : (x : Meaning) → Reads last (MeaningFits last x) (of_meaning cx x) (TypedFits h last)
   of_meaning_runs (m.Variable f) = done (of_variable f) (λ x. of_variable_fits f x)
   of_meaning_runs (m.Field declared offset) = done (own_field declared offset) (λ x. own_field_fits declared offset x)
-  of_meaning_runs (m.Method f) = broken_runs h n cx _
+  of_meaning_runs (m.Method f) = broken_runs h last cx _
   of_meaning_runs (m.Constant b z) = done (of_constant b z) (λ x. of_constant_fits b z)
-  of_meaning_runs (m.Function f) = broken_runs h n cx _
-  of_meaning_runs m.Nothing = broken_runs h n cx _
+  of_meaning_runs (m.Function f) = broken_runs h last cx _
+  of_meaning_runs m.Nothing = broken_runs h last cx _
 
-  this_in_runs : (k : Option Class) (class : ClassId) {P : Type 0} → Reads n P (this_in k cx class) (TypedFits h n)
-  this_in_runs None class = broken_runs h n cx _
+  this_in_runs : (k : Option Class) (class : ClassId) {P : Type 0} → Reads last P (this_in k cx class) (TypedFits h last)
+  this_in_runs None class = broken_runs h last cx _
   this_in_runs (Some k) class = done (typed.This class k.remote) (λ x. tt)
 
-  this_by_runs : (o : Option ClassId) {P : Type 0} → Reads n P (this_by o cx) (TypedFits h n)
-  this_by_runs None = broken_runs h n cx _
+  this_by_runs : (o : Option ClassId) {P : Type 0} → Reads last P (this_by o cx) (TypedFits h last)
+  this_by_runs None = broken_runs h last cx _
   this_by_runs (Some class) = this_in_runs (class_at cx class) class
 
-  pub this_runs : {P : Type 0} → Reads n P (this cx) (TypedFits h n)
+  pub this_runs : {P : Type 0} → Reads last P (this cx) (TypedFits h last)
   this_runs = this_by_runs cx.class
 
   -- ---- lengths
 
-  no_length_runs : (b : Broken) {P : Type 0} → Reads n P (no_length b) (IfThere IsLength)
-  no_length_runs b = next (note_runs n b) (done None (λ x. tt))
+  no_length_runs : (b : Broken) {P : Type 0} → Reads last P (no_length b) (IfThere IsLength)
+  no_length_runs b = next (note_runs last b) (done None (λ x. tt))
 
   above_zero : (z : ℤ) → int_lt z (pos 1) ≡ false → 1 ≤ natural z
   above_zero (pos zero) is = absurd (true≢false is)
@@ -229,22 +229,22 @@ module _ (h : Shapes) (n : ℕ) (cx : Context) where
   right_false false b is = is
 
   in_range_or_not : (b : Bool) (z : ℤ) → (b ≡ false → IsLength (natural z)) → {P : Type 0}
-      → Reads n P (if b then no_length (Limit ArrayLength cx.line) else pure (Some (natural z))) (IfThere IsLength)
+      → Reads last P (if b then no_length (Limit ArrayLength cx.line) else pure (Some (natural z))) (IfThere IsLength)
   in_range_or_not true z f = no_length_runs _
   in_range_or_not false z f = done (Some (natural z)) (λ x. f refl)
 
-  length_in_range_runs : (z : ℤ) {P : Type 0} → Reads n P (length_in_range cx z) (IfThere IsLength)
+  length_in_range_runs : (z : ℤ) {P : Type 0} → Reads last P (length_in_range cx z) (IfThere IsLength)
   unfolding length_in_range
   length_in_range_runs z = in_range_or_not (int_lt z (pos 1) || int_lt (pos 65536) z) z (λ is. (
     above_zero z (left_false (int_lt z (pos 1)) (int_lt (pos 65536) z) is),
     few z (right_false (int_lt z (pos 1)) (int_lt (pos 65536) z) is),
   ))
 
-  value_length_runs : (o : Option ℤ) {P : Type 0} → Reads n P (value_length cx o) (IfThere IsLength)
+  value_length_runs : (o : Option ℤ) {P : Type 0} → Reads last P (value_length cx o) (IfThere IsLength)
   value_length_runs None = no_length_runs _
   value_length_runs (Some z) = length_in_range_runs z
 
-  pub length_of_runs : (t : Typed) {P : Type 0} → Reads n P (length_of cx t) (IfThere IsLength)
+  pub length_of_runs : (t : Typed) {P : Type 0} → Reads last P (length_of cx t) (IfThere IsLength)
   length_of_runs typed.Broken = no_length_runs _
   length_of_runs typed.Spoiled = done None (λ x. tt)
   length_of_runs (typed.Value v) = no_length_runs _
@@ -254,14 +254,14 @@ module _ (h : Shapes) (n : ℕ) (cx : Context) where
   length_of_runs (typed.Array p k) = no_length_runs _
   length_of_runs (typed.Object o) = no_length_runs _
 
-  no_value_runs : {P : Type 0} → Reads n P (no_value cx) Anything
-  no_value_runs = next (note_runs n _) (done None (λ x. tt))
+  no_value_runs : {P : Type 0} → Reads last P (no_value cx) Anything
+  no_value_runs = next (note_runs last _) (done None (λ x. tt))
 
-  value_or_fault_runs : (o : Option ℤ) {P : Type 0} → Reads n P (value_or_fault cx o) Anything
+  value_or_fault_runs : (o : Option ℤ) {P : Type 0} → Reads last P (value_or_fault cx o) Anything
   value_or_fault_runs None = no_value_runs
   value_or_fault_runs (Some z) = done (Some z) (λ x. tt)
 
-  pub constant_of_runs : (t : Typed) {P : Type 0} → Reads n P (constant_of cx t) Anything
+  pub constant_of_runs : (t : Typed) {P : Type 0} → Reads last P (constant_of cx t) Anything
   constant_of_runs typed.Broken = no_value_runs
   constant_of_runs typed.Spoiled = done None (λ x. tt)
   constant_of_runs (typed.Value v) = no_value_runs
@@ -272,6 +272,6 @@ module _ (h : Shapes) (n : ℕ) (cx : Context) where
   constant_of_runs (typed.Object o) = no_value_runs
 
 -- a name, in a context whose tables agree
-pub name_runs : (h : Shapes) (n : ℕ) (cx : Context) → Agree h cx.tables → (text : Name) {P : Type 0} → Reads n P (name cx text) (TypedFits h n)
-name_runs h n cx agree text = looking (λ s. of_meaning cx (meant cx text s)) (λ s.
-    given (λ x. meant_fits h cx agree n text s x.1) (of_meaning_runs h n cx (meant cx text s)))
+pub name_runs : (h : Shapes) (last : State) (cx : Context) → Agree h cx.tables → (text : Name) {P : Type 0} → Reads last P (name cx text) (TypedFits h last)
+name_runs h last cx agree text = looking (λ s. of_meaning cx (meant cx text s)) (λ s.
+    given (λ x. meant_fits h cx agree last text s x.1) (of_meaning_runs h last cx (meant cx text s)))

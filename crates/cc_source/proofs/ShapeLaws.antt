@@ -34,7 +34,7 @@ use Rattle.cc_functions.specs.Constructors.{constructor_at}
 use Rattle.cc_functions.specs.Items.{with_function, no_members, run_of, with_run, filled_runs, filled, member_name, field_member, function_member, member_by, members_from, class_item}
 use Rattle.cc_functions.specs.Items.{constant_item, function_item, class_id, after_constant, after_class, after_function, items_from}
 use Rattle.stack_code.specs.Kept.{IsFunShape, IsClassShape}
-use Rattle.cc_source.proofs.Sound.{IsLength, HasCells, Agree, Within}
+use Rattle.cc_source.proofs.Sound.{IsLength, HasCells, Agree, itself}
 use Rattle.cc_source.proofs.RuleLaws.{empty_before, empty_behind, few_params, rules_of_class}
 use Rattle.cc_source.proofs.DeclaredLaws.{DeclaredFits, field_runs}
 use Rattle.cc_source.proofs.FunctionLaws.{arity_is}
@@ -45,9 +45,7 @@ use Rattle.cc_source.proofs.ItemLaws.{FunctionIsFine, all_and_one}
 
 field_has_cells : (h : Shapes) (cx : Context) → Agree h cx.tables → (d : Decl) (s : State) → DeclaredFits (field cx d (begin s).1).0
 field_has_cells h cx agree d s =
-    let n = length (field cx d (begin s).1).1.made in
-    let same : Within n (field cx d (begin s).1).1 = omega arith in
-    (((field_runs h n cx agree d {P = Unit {0}}).run (begin s).1 same).1 tt tt).1
+    let last = (field cx d (begin s).1).1 in (((field_runs h last cx agree d {P = Unit {0}}).run (begin s).1 (itself last)).1 tt tt).1
 
 -- ---- a class so far
 

@@ -1,5 +1,5 @@
 -- What holds of the tables, of the variables in scope, and of what an expression is.
-use Rattle.std.proofs.Common.{◌≡◌, ℕ, ◌<◌, ◌≤◌, List, [], ◌∷◌, length, Some}
+use Rattle.std.proofs.Common.{◌≡◌, ℕ, ◌<◌, ◌≤◌, List, [], ◌∷◌, length, Some, arith}
 use Rattle.std.specs.Prelude.{slice_get}
 use Rattle.cc_ops.specs.Classes.{arity}
 use Rattle.cc_core.specs.Core.{Shapes, function_shape, class_shape}
@@ -20,7 +20,7 @@ use Rattle.cc_scopes.specs.declared.types.Shape.{Shape}
 use Rattle.cc_scopes.specs.declared.types.Shape.TheVariants as shape
 use Rattle.cc_scopes.specs.Elab.{Elab}
 use Rattle.cc_source.proofs.Runs.{Runs}
-use Rattle.cc_source.proofs.Fits.{ExpressionFits}
+use Rattle.cc_source.proofs.Fits.{Clean, ExpressionFits}
 
 -- ---- the tables
 
@@ -52,45 +52,48 @@ pub record Agree (h : Shapes) (t : Tables) : Type 0 where
   pub classes : (c : ℕ) (k : Class) → slice_get t.classes c ≡ Some k → HasMaker h c k
   pub members : (c : ℕ) (k : Class) → slice_get t.classes c ≡ Some k → MembersHaveCells k
 
--- ---- the variables in scope, of a function with n variables
+-- ---- the variables in scope, of a function of which this is the last state
 
-abbrev pub FoundFits : ℕ → Found → Type 0
-FoundFits n f = (f.number < n) × HasCells f.declared.shape
+abbrev pub FoundFits : State → Found → Type 0
+FoundFits last f = (f.number < length last.made) × HasCells f.declared.shape
 
-abbrev pub LocalsFit : ℕ → List Local → Type 0
-LocalsFit n [] = Unit {0}
-LocalsFit n (l ∷ ls) = (l.number < n) × HasCells l.declared.shape × LocalsFit n ls
+abbrev pub LocalsFit : State → List Local → Type 0
+LocalsFit last [] = Unit {0}
+LocalsFit last (l ∷ ls) = (l.number < length last.made) × HasCells l.declared.shape × LocalsFit last ls
 
-abbrev pub MeaningFits : ℕ → Meaning → Type 0
-MeaningFits n (m.Variable found) = FoundFits n found
-MeaningFits n (m.Field declared offset) = HasCells declared.shape
-MeaningFits n (m.Method f) = Unit {0}
-MeaningFits n (m.Constant is_earlier value) = Unit {0}
-MeaningFits n (m.Function f) = Unit {0}
-MeaningFits n m.Nothing = Unit {0}
+abbrev pub MeaningFits : State → Meaning → Type 0
+MeaningFits last (m.Variable found) = FoundFits last found
+MeaningFits last (m.Field declared offset) = HasCells declared.shape
+MeaningFits last (m.Method f) = Unit {0}
+MeaningFits last (m.Constant is_earlier value) = Unit {0}
+MeaningFits last (m.Function f) = Unit {0}
+MeaningFits last m.Nothing = Unit {0}
 
--- the variables that are made so far are among them
-abbrev pub Within : ℕ → State → Type 0
-Within n s = length s.made ≤ n
+-- a state before the last one: the variables that are made so far are among those made then, and no rule is broken that is not then
+abbrev pub Before : State → State → Type 0
+Before last s = (length s.made ≤ length last.made) × (Clean last → Clean s)
 
-abbrev pub Keeps : ℕ → State → Type 0
-Keeps n s = LocalsFit n s.locals
+pub itself : (s : State) → Before s s
+itself s = (omega arith, λ c. c)
 
-abbrev pub Reads : ℕ → {A : Type 0} → Type 0 → Elab A → (A → Type 0) → Type 0
-Reads n P p Q = Runs (Within n) (Keeps n) P p Q
+abbrev pub Keeps : State → State → Type 0
+Keeps last s = LocalsFit last s.locals
+
+abbrev pub Reads : State → {A : Type 0} → Type 0 → Elab A → (A → Type 0) → Type 0
+Reads last P p Q = Runs (Before last) (Keeps last) P p Q
 
 -- ---- what an expression is
 
-module _ (h : Shapes) (n : ℕ) where
+module _ (h : Shapes) (last : State) where
   abbrev pub OperandFits : Operand → Type 0
-  OperandFits v = ExpressionFits h n v.term
+  OperandFits v = ExpressionFits h last v.term
 
   abbrev pub TypedFits : Typed → Type 0
   TypedFits typed.Broken = Unit {0}
   TypedFits typed.Spoiled = Unit {0}
-  TypedFits (typed.Value v) = ExpressionFits h n v.term
+  TypedFits (typed.Value v) = ExpressionFits h last v.term
   TypedFits (typed.This class remote) = Unit {0}
-  TypedFits (typed.Constant term value) = ExpressionFits h n term
-  TypedFits (typed.Place p) = ExpressionFits h n p.address
-  TypedFits (typed.Array p count) = ExpressionFits h n p.address × (1 ≤ count)
-  TypedFits (typed.Object o) = ExpressionFits h n o.address
+  TypedFits (typed.Constant term value) = ExpressionFits h last term
+  TypedFits (typed.Place p) = ExpressionFits h last p.address
+  TypedFits (typed.Array p count) = ExpressionFits h last p.address × (1 ≤ count)
+  TypedFits (typed.Object o) = ExpressionFits h last o.address

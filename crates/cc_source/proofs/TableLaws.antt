@@ -21,7 +21,7 @@ use Rattle.cc_tree.specs.declared.declarations.Member.TheVariants as member
 use Rattle.cc_tree.specs.declared.statements.Decl.{Decl}
 use Rattle.cc_declared.specs.Slots.{field}
 use Rattle.cc_tables.specs.Tables.{constants_alone, outside, width, field_of, members_from, class_of, classes_from, functions_of, constants_of, constants_from, tables_of}
-use Rattle.cc_source.proofs.Sound.{MemberHasCells, MembersHaveCells, Agree, Within}
+use Rattle.cc_source.proofs.Sound.{MemberHasCells, MembersHaveCells, Agree, itself}
 use Rattle.cc_source.proofs.DeclaredLaws.{DeclaredFits, field_runs}
 use Rattle.cc_source.proofs.CountLaws.{function_counts, first_counts, functions_counted, classes_counted}
 
@@ -60,9 +60,7 @@ constants_agree h cs = record {
 module _ (h : Shapes) where
   field_has_cells : (cx : Context) → Agree h cx.tables → (d : Decl) → DeclaredFits (field_of cx d)
   field_has_cells cx agree d =
-      let n = length (field cx d nothing_yet).1.made in
-      let same : Within n (field cx d nothing_yet).1 = omega arith in
-      (((field_runs h n cx agree d {P = Unit {0}}).run nothing_yet same).1 tt tt).1
+      let last = (field cx d nothing_yet).1 in (((field_runs h last cx agree d {P = Unit {0}}).run nothing_yet (itself last)).1 tt tt).1
 
   members_have_cells : (cx : Context) → Agree h cx.tables → (cells f : ℕ) (ms : List Member) (i : ℕ) (m : Entry)
       → slice_get (members_from cx cells f ms) i ≡ Some m → MemberHasCells m

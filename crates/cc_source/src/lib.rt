@@ -16,7 +16,7 @@ ghost use Rattle.stack_code.specs.Kept.{IsFunShape, IsClassShape};
 
 /// What the front end leaves of a well-formed program is a source of the core language: each call names a function that there is and
 /// hands over as many values as it takes, a new object gets as many as its class's constructor takes, each operator has its operands,
-/// and no running form stands in it.
+/// `break` and `continue` stand in loops, and no running form stands in it.
 pub fn core_is_a_program()
     ensures { (p : Program) → IsWellFormed p → IsProgram (program_of (core_program p)) }
 {}
