@@ -137,6 +137,8 @@ module _ (program : core.Program) (y : Types) (world : World) (home : core_names
     one_set_by (StmtKind-F.If c' first other) b s here' q = absurd (other_never cx b s q)
     one_set_by (StmtKind-F.While c' x) b s here' q = absurd (other_never cx b s q)
     one_set_by (StmtKind-F.For first c' after x) b s here' q = absurd (other_never cx b s q)
+    one_set_by StmtKind-F.Break b s here' q = absurd (other_never cx b s q)
+    one_set_by StmtKind-F.Continue b s here' q = absurd (other_never cx b s q)
     one_set_by (StmtKind-F.Par bs) b s here' q = absurd (other_never cx b s q)
     one_set_by (StmtKind-F.ParFor name start c' after x) b s here' q = absurd (other_never cx b s q)
     one_set_by (StmtKind-F.Spawn e) b s here' q = absurd (other_never cx b s q)
