@@ -66,7 +66,8 @@ module _ (h : Shapes) (last : State) (cx : Context) (agree : Agree h cx.tables) 
   combined_value_runs op p e = bind (combined_runs op p e) (λ t. bind (given (λ x. x.1) (decay_runs h last cx t)) (λ v.
       done (term_of v) (λ x. term_of_fits v x.1)))
 
-  value_by_runs : (o : Option BinaryOp) (wanted : Ty) (p e : Expr) → Reads last (Unit {0}) (value_by o cx wanted p e) (IfThere (ExpressionFits h last))
+  value_by_runs : (o : Option BinaryOp) (wanted : Ty) (p e : Expr)
+      → Reads last (Unit {0}) (value_by o cx wanted p e) (IfThere (ExpressionFits h last))
   value_by_runs None wanted p e = fitting_runs h last cx agree wanted e
   value_by_runs (Some op) wanted p e = combined_value_runs op p e
 
@@ -90,7 +91,8 @@ module _ (h : Shapes) (last : State) (cx : Context) (agree : Agree h cx.tables) 
   assignment_at_runs None op target e = no_assignment_runs e
   assignment_at_runs (Some p) op target e = assignment_to_runs p op target e
 
-  pub assignment_runs : (target : Expr) (op : AssignOp) (e : Expr) → Reads last (Unit {0}) (assignment cx target op e) (IfThere (AssignmentFits h last))
+  pub assignment_runs : (target : Expr) (op : AssignOp) (e : Expr)
+      → Reads last (Unit {0}) (assignment cx target op e) (IfThere (AssignmentFits h last))
   unfolding assignment
   assignment_runs target op e = bind (place_runs h last cx agree target) (λ p. given (λ x. x.1) (assignment_at_runs p op target e))
 
@@ -109,7 +111,8 @@ module _ (h : Shapes) (last : State) (cx : Context) (agree : Agree h cx.tables) 
   cells_above (shape.Array m) p = p.0
   cells_above (shape.Object class) p = omega arith
 
-  makes_cells : (l : Bool) (k : ℕ) (d : Declared) → k < length last.made → DeclaredFits d → StatementFits h last l (s.Make k (cell_kind d.ty d.sync) (cells d.shape))
+  makes_cells : (l : Bool) (k : ℕ) (d : Declared) → k < length last.made → DeclaredFits d
+      → StatementFits h last l (s.Make k (cell_kind d.ty d.sync) (cells d.shape))
   makes_cells l k d p q = make_fits h last l k (cell_kind d.ty d.sync) (cells d.shape) p (cells_above d.shape q)
 
   built_unless_runs : (r : Option StaticRule) (class : ClassId) (k : Class) (a : Args) → HasMaker h class.0 k → args_rule k.constructor a.types ≡ r
@@ -123,7 +126,8 @@ module _ (h : Shapes) (last : State) (cx : Context) (agree : Agree h cx.tables) 
   built_as_runs None class a is = next (note_rule_runs h last cx _) (done _ (λ x. makes_cells))
   built_as_runs (Some k) class a is = built_unless_runs (args_rule k.constructor a.types) class k a (agree.classes class.0 k is) refl
 
-  built_runs : (class : ClassId) (a : Option Args) → Reads last (IfThere (ArgsFit h last) a) (built cx class a) (λ b. Declares h last (λ k d. made k d b))
+  built_runs : (class : ClassId) (a : Option Args)
+      → Reads last (IfThere (ArgsFit h last) a) (built cx class a) (λ b. Declares h last (λ k d. made k d b))
   built_runs class None = done _ (λ x. makes_cells)
   built_runs class (Some a) = built_as_runs (class_at cx class) class a refl
 
@@ -146,7 +150,8 @@ module _ (h : Shapes) (last : State) (cx : Context) (agree : Agree h cx.tables) 
   unfolding started_cell
   started_cell_runs d e = bind (fitting_runs h last cx agree d.ty e) (λ v. done (with_value v) (λ x. with_value_fits v x.1))
 
-  started_object_runs : (class : ClassId) (es : List Expr) → Reads last (Unit {0}) (started_object cx class es) (λ b. Declares h last (λ k d. made k d b))
+  started_object_runs : (class : ClassId) (es : List Expr)
+      → Reads last (Unit {0}) (started_object cx class es) (λ b. Declares h last (λ k d. made k d b))
   unfolding started_object
   started_object_runs class es = bind (args_runs h last cx agree es) (λ a. given (λ x. x.1) (built_runs class a))
 

@@ -51,7 +51,8 @@ with_arg_fits h last None v p q = tt
 with_arg_fits h last (Some a) None p q = tt
 with_arg_fits h last (Some a) (Some v) p q = (one_more h last a.terms v.term p.0 q, same_more a.types a.terms v.ty v.term p.1)
 
-pub passed_runs : (h : Shapes) (last : State) (cx : Context) (t : Typed) → Reads last (TypedFits h last t) (passed cx t) (IfThere (OperandFits h last))
+pub passed_runs : (h : Shapes) (last : State) (cx : Context) (t : Typed)
+    → Reads last (TypedFits h last t) (passed cx t) (IfThere (OperandFits h last))
 passed_runs h last cx (typed.Object o) = done (Some (object_passed o)) (λ x. x)
 passed_runs h last cx typed.Broken = decay_runs h last cx typed.Broken
 passed_runs h last cx typed.Spoiled = decay_runs h last cx typed.Spoiled
@@ -92,7 +93,8 @@ module _ (h : Shapes) (last : State) (cx : Context) where
   counted_on : (w k a : ℕ) → w ≡ k → a ≡ k → suc w ≡ 1 + a
   counted_on w k a p q = omega (arith, p, q)
 
-  call_term_fits : (f : FunId) (c : Callee) (g : Signature) (es : List Expression) → HasParams h f.0 g → CalleeFits h last c → ExpressionsFit h last es
+  call_term_fits : (f : FunId) (c : Callee) (g : Signature) (es : List Expression) → HasParams h f.0 g → CalleeFits h last c
+      → ExpressionsFit h last es
       → length es ≡ length g.params → ExpressionFits h last (call_term f c es)
   call_term_fits f callee.Alone g es has p q is =
       call_fits h last how.Alone f.0 es q (has.0, counted_alone _ _ _ (width_of es ∙ is) has.1)

@@ -81,7 +81,8 @@ module _ (h : Shapes) (last : State) (cx : Context) (agree : Agree h cx.tables) 
   fits_or_not true v = done (Some v.term) (λ x. x)
   fits_or_not false v = next (note_rule_runs h last cx _) (done None (λ x. tt))
 
-  fitted_runs : (wanted : Ty) (v : Option Operand) → Reads last (IfThere (OperandFits h last) v) (fitted cx wanted v) (IfThere (ExpressionFits h last))
+  fitted_runs : (wanted : Ty) (v : Option Operand)
+      → Reads last (IfThere (OperandFits h last) v) (fitted cx wanted v) (IfThere (ExpressionFits h last))
   fitted_runs wanted None = done None (λ x. tt)
   fitted_runs wanted (Some v) = fits_or_not (accepts wanted v.ty) v
 

@@ -43,7 +43,8 @@ abbrev pub ObjectFits : Shapes → State → Object → Type 0
 ObjectFits h last o = ExpressionFits h last o.address
 
 module _ (h : Shapes) (last : State) (cx : Context) where
-  if_runs : {P : Type 0} (b : Bool) (p q : Elab Typed) → Reads last P p (TypedFits h last) → Reads last P q (TypedFits h last) → Reads last P (cond b p q) (TypedFits h last)
+  if_runs : {P : Type 0} (b : Bool) (p q : Elab Typed) → Reads last P p (TypedFits h last) → Reads last P q (TypedFits h last)
+      → Reads last P (cond b p q) (TypedFits h last)
   if_runs true p q x y = x
   if_runs false p q x y = y
 
@@ -90,7 +91,8 @@ module _ (h : Shapes) (last : State) (cx : Context) where
   before_dot_runs (typed.Array p k) = no_object_runs
   before_dot_runs (typed.Object o) = done (Some o) (λ x. x)
 
-  target_object_runs : (t : Target) (x : Expression) (remote : Bool) → Reads last (ExpressionFits h last x) (target_object t cx x remote) (IfThere (ObjectFits h last))
+  target_object_runs : (t : Target) (x : Expression) (remote : Bool)
+      → Reads last (ExpressionFits h last x) (target_object t cx x remote) (IfThere (ObjectFits h last))
   target_object_runs target.Int x remote = no_object_runs
   target_object_runs target.SyncInt x remote = no_object_runs
   target_object_runs (target.Class class) x remote = done (Some (object_behind class x remote)) (λ p. p)

@@ -36,13 +36,15 @@ use Rattle.cc_source.proofs.Sound.{Reads, OperandFits, TypedFits}
 use Rattle.cc_source.proofs.ScopeLaws.{broken_runs, decay_runs, share_address_runs}
 
 module _ (h : Shapes) (last : State) (cx : Context) where
-  if_runs : {P : Type 0} (b : Bool) (p q : Elab Typed) → Reads last P p (TypedFits h last) → Reads last P q (TypedFits h last) → Reads last P (cond b p q) (TypedFits h last)
+  if_runs : {P : Type 0} (b : Bool) (p q : Elab Typed) → Reads last P p (TypedFits h last) → Reads last P q (TypedFits h last)
+      → Reads last P (cond b p q) (TypedFits h last)
   if_runs true p q x y = x
   if_runs false p q x y = y
 
   -- ---- - and !
 
-  operated_by_runs : (o : Op) → takes o ≡ 1 → (v : Option Operand) → Reads last (IfThere (OperandFits h last) v) (operated_by cx o v) (TypedFits h last)
+  operated_by_runs : (o : Op) → takes o ≡ 1 → (v : Option Operand)
+      → Reads last (IfThere (OperandFits h last) v) (operated_by cx o v) (TypedFits h last)
   operated_by_runs o one None = done typed.Spoiled (λ x. tt)
   operated_by_runs o one (Some v) = if_runs (is_int v.ty) _ _
       (done (typed.Value (int (unary_term o v.term))) (λ x. unary_fits h last o v.term one x)) (broken_runs h last cx _)
@@ -162,7 +164,8 @@ module _ (h : Shapes) (last : State) (cx : Context) where
   joined_constant_runs o sum a z (typed.Array p m) = joined_values_runs o (typed.Constant a z) (typed.Array p m)
   joined_constant_runs o sum a z (typed.Object b) = joined_values_runs o (typed.Constant a z) (typed.Object b)
 
-  joined_numbers_runs : (o : BinaryOp) (sum : Op) (a b : Typed) → Reads last (TypedFits h last a × TypedFits h last b) (joined_numbers cx o sum a b) (TypedFits h last)
+  joined_numbers_runs : (o : BinaryOp) (sum : Op) (a b : Typed)
+      → Reads last (TypedFits h last a × TypedFits h last b) (joined_numbers cx o sum a b) (TypedFits h last)
   joined_numbers_runs o sum (typed.Constant a z) b = joined_constant_runs o sum a z b
   joined_numbers_runs o sum typed.Broken b = joined_values_runs o typed.Broken b
   joined_numbers_runs o sum typed.Spoiled b = joined_values_runs o typed.Spoiled b
@@ -172,7 +175,8 @@ module _ (h : Shapes) (last : State) (cx : Context) where
   joined_numbers_runs o sum (typed.Array p m) b = joined_values_runs o (typed.Array p m) b
   joined_numbers_runs o sum (typed.Object a) b = joined_values_runs o (typed.Object a) b
 
-  joined_as_runs : (sum : Option Op) (o : BinaryOp) (a b : Typed) → Reads last (TypedFits h last a × TypedFits h last b) (joined_as sum cx o a b) (TypedFits h last)
+  joined_as_runs : (sum : Option Op) (o : BinaryOp) (a b : Typed)
+      → Reads last (TypedFits h last a × TypedFits h last b) (joined_as sum cx o a b) (TypedFits h last)
   joined_as_runs None o a b = joined_values_runs o a b
   joined_as_runs (Some sum) o a b = joined_numbers_runs o sum a b
 

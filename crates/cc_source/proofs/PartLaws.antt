@@ -104,7 +104,8 @@ module _ (h : Shapes) (last : State) (cx : Context) (agree : Agree h cx.tables) 
   unfolding field
   field_runs t arrow text = bind (object_of_runs h last cx arrow t) (λ o. given (λ x. x.1) (field_of_runs h last cx agree text o))
 
-  call_on_runs : (t : Typed) (arrow : Bool) (text : Name) (es : List Expr) → Reads last (TypedFits h last t) (call_on expr cx t arrow text es) (TypedFits h last)
+  call_on_runs : (t : Typed) (arrow : Bool) (text : Name) (es : List Expr)
+      → Reads last (TypedFits h last t) (call_on expr cx t arrow text es) (TypedFits h last)
   unfolding call_on
   call_on_runs t arrow text es = bind (object_of_runs h last cx arrow t) (λ o. bind (always (args_runs es)) (λ a.
       given (λ x. (x.0.1, x.1)) (call_member_runs h last cx agree text o a)))

@@ -127,7 +127,8 @@ module _ (h : Shapes) (last : State) where
   placed_as_fits ty.Void shape p c f = placed_by_fits shape p c f
   placed_as_fits (ty.Pointer to remote) shape p c f = placed_by_fits shape p c f
 
-  pub placed_fits : (x : _) (d : Declared) (remote : Bool) (root : Root) → HasCells d.shape → ExpressionFits h last x → TypedFits h last (placed x d remote root)
+  pub placed_fits : (x : _) (d : Declared) (remote : Bool) (root : Root) → HasCells d.shape → ExpressionFits h last x
+      → TypedFits h last (placed x d remote root)
   placed_fits x d remote root c f = placed_as_fits d.ty d.shape (place_of x d remote root) c f
 
   pub literal_fits : (z : ℤ) → TypedFits h last (literal z)
@@ -152,7 +153,8 @@ module _ (h : Shapes) (last : State) (cx : Context) where
   unfolding pointed
   pointed_runs p = next (share_address_runs p.sync) (done (Some (pointer_to p)) (λ x. x))
 
-  first_unless_runs : (o : Option StaticRule) (p : Place) → Reads last (ExpressionFits h last p.address) (first_unless o cx p) (IfThere (OperandFits h last))
+  first_unless_runs : (o : Option StaticRule) (p : Place)
+      → Reads last (ExpressionFits h last p.address) (first_unless o cx p) (IfThere (OperandFits h last))
   first_unless_runs (Some rule) p = no_operand_runs h last cx rule
   first_unless_runs None p = pointed_runs p
 
@@ -272,6 +274,7 @@ module _ (h : Shapes) (last : State) (cx : Context) where
   constant_of_runs (typed.Object o) = no_value_runs
 
 -- a name, in a context whose tables agree
-pub name_runs : (h : Shapes) (last : State) (cx : Context) → Agree h cx.tables → (text : Name) {P : Type 0} → Reads last P (name cx text) (TypedFits h last)
+pub name_runs : (h : Shapes) (last : State) (cx : Context) → Agree h cx.tables → (text : Name) {P : Type 0}
+    → Reads last P (name cx text) (TypedFits h last)
 name_runs h last cx agree text = looking (λ s. of_meaning cx (meant cx text s)) (λ s.
     given (λ x. meant_fits h cx agree last text s x.1) (of_meaning_runs h last cx (meant cx text s)))

@@ -20,7 +20,8 @@ use Rattle.cc_source.proofs.Sound.{HasCells, FoundFits, LocalsFit, Reads}
 
 -- ---- the variables in scope
 
-pub locals_one_more : (last : State) (ls : List Local) (l : Local) → LocalsFit last ls → l.number < length last.made → HasCells l.declared.shape → LocalsFit last (ls ++ l ∷ [])
+pub locals_one_more : (last : State) (ls : List Local) (l : Local) → LocalsFit last ls → l.number < length last.made → HasCells l.declared.shape
+    → LocalsFit last (ls ++ l ∷ [])
 locals_one_more last [] l a p q = (p, q, tt)
 locals_one_more last (x ∷ ls) l a p q = (a.0, a.1, locals_one_more last ls l a.2 p q)
 
@@ -80,7 +81,8 @@ module _ (last : State) {P : Type 0} where
   unfolding twice
   twice_runs cx name = record { run = λ s e. (noted_or_not (is_here cx name s) (Rule LocalTwice cx.line)).run s e }
 
-  pub bring_runs : (cx : Context) (name : Name) (k : ℕ) (d : Declared) → (P → k < length last.made) → (P → HasCells d.shape) → Reads last P (bring cx name k d) Anything
+  pub bring_runs : (cx : Context) (name : Name) (k : ℕ) (d : Declared) → (P → k < length last.made) → (P → HasCells d.shape)
+      → Reads last P (bring cx name k d) Anything
   bring_runs cx name k d p q = record {
     run = λ s e. (
       e,
@@ -93,7 +95,8 @@ module _ (last : State) {P : Type 0} where
   number_runs d = record { run = λ s e. ((fewer_made (length last.made) s.made d e.0, e.1), λ x k. (k, more_made (length last.made) s.made d e.0)) }
 
 -- a new variable is among the function's
-pub declare_runs : (last : State) {P : Type 0} (cx : Context) (name : Name) (d : Declared) → (P → HasCells d.shape) → Reads last P (declare cx name d) (λ k. k < length last.made)
+pub declare_runs : (last : State) {P : Type 0} (cx : Context) (name : Name) (d : Declared) → (P → HasCells d.shape)
+    → Reads last P (declare cx name d) (λ k. k < length last.made)
 unfolding declare
 declare_runs last cx name d p = next (twice_runs last cx name) (bind (number_runs last d) (λ k.
     next (bring_runs last cx name k d (λ x. x.1) (λ x. p x.0)) (done k (λ x. x.1))))

@@ -61,11 +61,13 @@ module _ (h : Shapes) (last : State) where
     statements_from_runs cx agree ss (b ∷ bs) = bind (always (reads cx agree b)) (λ x.
         given (λ p. one_more_statement h last cx.in_loop ss x p.0 p.1) (statements_from_runs cx agree (ss ++ x ∷ []) bs))
 
-    pub statements_runs : (cx : Context) → Agree h cx.tables → (bs : List Stmt) → Reads last (Unit {0}) (statements stmt cx bs) (StatementsFit h last cx.in_loop)
+    pub statements_runs : (cx : Context) → Agree h cx.tables → (bs : List Stmt)
+        → Reads last (Unit {0}) (statements stmt cx bs) (StatementsFit h last cx.in_loop)
     unfolding statements
     statements_runs cx agree bs = given (λ x. none_fit h last cx.in_loop) (statements_from_runs cx agree [] bs)
 
-    block_of_runs : (cx : Context) → Agree h cx.tables → (bs : List Stmt) → Reads last (Unit {0}) (block_of stmt cx bs) (StatementFits h last cx.in_loop)
+    block_of_runs : (cx : Context) → Agree h cx.tables → (bs : List Stmt)
+        → Reads last (Unit {0}) (block_of stmt cx bs) (StatementFits h last cx.in_loop)
     unfolding block_of
     block_of_runs cx agree bs = looking
         (λ t. statements stmt (inside cx (length t.locals)) bs >>= (λ xs. leave (length t.locals) >> pure (s.Block xs)))
@@ -78,7 +80,8 @@ module _ (h : Shapes) (last : State) where
     open_block_runs cx agree line bs = bind (statements_runs (at_line cx line) agree bs) (λ xs.
         done (s.AtLine line (s.Block xs)) (λ x. at_line_fits h last cx.in_loop line (s.Block xs) (block_fits h last cx.in_loop xs x.1)))
 
-    body_by_runs : (cx : Context) → Agree h cx.tables → (l : Layer) (b : Stmt) → Reads last (Unit {0}) (body_by stmt l cx b) (StatementFits h last cx.in_loop)
+    body_by_runs : (cx : Context) → Agree h cx.tables → (l : Layer) (b : Stmt)
+        → Reads last (Unit {0}) (body_by stmt l cx b) (StatementFits h last cx.in_loop)
     body_by_runs cx agree (StmtKind-F.Block ss) b = open_block_runs cx agree (out-Stmt b).line ss
     body_by_runs cx agree StmtKind-F.Empty b = reads cx agree b
     body_by_runs cx agree (StmtKind-F.Declare d) b = reads cx agree b
@@ -101,7 +104,8 @@ module _ (h : Shapes) (last : State) where
 
     -- ---- choices and loops
 
-    if_only_runs : (cx : Context) → Agree h cx.tables → (c : Expr) (b : Stmt) → Reads last (Unit {0}) (if_only stmt cx c b) (StatementFits h last cx.in_loop)
+    if_only_runs : (cx : Context) → Agree h cx.tables → (c : Expr) (b : Stmt)
+        → Reads last (Unit {0}) (if_only stmt cx c b) (StatementFits h last cx.in_loop)
     unfolding if_only
     if_only_runs cx agree c b = bind (int_value_runs h last cx agree c) (λ t. bind (always (reads cx agree b)) (λ x.
         done (s.If t x) (λ p. if_fits h last cx.in_loop t x p.0.1 p.1)))
@@ -110,16 +114,19 @@ module _ (h : Shapes) (last : State) where
     unfolding both
     both_runs cx agree a b = bind (reads cx agree a) (λ x. bind (always (reads cx agree b)) (λ y. done (x, y) (λ p. (p.0.1, p.1))))
 
-    if_else_runs : (cx : Context) → Agree h cx.tables → (c : Expr) (a b : Stmt) → Reads last (Unit {0}) (if_else stmt cx c a b) (StatementFits h last cx.in_loop)
+    if_else_runs : (cx : Context) → Agree h cx.tables → (c : Expr) (a b : Stmt)
+        → Reads last (Unit {0}) (if_else stmt cx c a b) (StatementFits h last cx.in_loop)
     unfolding if_else
     if_else_runs cx agree c a b = bind (int_value_runs h last cx agree c) (λ t. bind (always (both_runs cx agree a b)) (λ q.
         done (s.IfElse t q.0 q.1) (λ p. if_else_fits h last cx.in_loop t q.0 q.1 p.0.1 p.1.0 p.1.1)))
 
-    choice_runs : (cx : Context) → Agree h cx.tables → (c : Expr) (a : Stmt) (o : Option Stmt) → Reads last (Unit {0}) (choice stmt cx c a o) (StatementFits h last cx.in_loop)
+    choice_runs : (cx : Context) → Agree h cx.tables → (c : Expr) (a : Stmt) (o : Option Stmt)
+        → Reads last (Unit {0}) (choice stmt cx c a o) (StatementFits h last cx.in_loop)
     choice_runs cx agree c a None = if_only_runs cx agree c a
     choice_runs cx agree c a (Some b) = if_else_runs cx agree c a b
 
-    repeated_runs : (cx : Context) → Agree h cx.tables → (c : Expr) (b : Stmt) → Reads last (Unit {0}) (repeated stmt cx c b) (StatementFits h last cx.in_loop)
+    repeated_runs : (cx : Context) → Agree h cx.tables → (c : Expr) (b : Stmt)
+        → Reads last (Unit {0}) (repeated stmt cx c b) (StatementFits h last cx.in_loop)
     unfolding repeated
     repeated_runs cx agree c b = bind (int_value_runs h last cx agree c) (λ t. bind (always (reads (repeating cx) agree b)) (λ x.
         done (s.While t x) (λ p. while_fits h last cx.in_loop t x p.0.1 p.1)))
@@ -199,7 +206,8 @@ module _ (h : Shapes) (last : State) where
     header_step_by_runs cx agree (StmtKind-F.Spawn e) name b = no_step_runs cx agree b
     header_step_by_runs cx agree (StmtKind-F.Return e) name b = no_step_runs cx agree b
 
-    header_step_runs : (cx : Context) → Agree h cx.tables → (name : Name) (b : Stmt) → Reads last (Unit {0}) (header_step stmt cx name b) (ExpressionFits h last)
+    header_step_runs : (cx : Context) → Agree h cx.tables → (name : Name) (b : Stmt)
+        → Reads last (Unit {0}) (header_step stmt cx name b) (ExpressionFits h last)
     unfolding header_step
     header_step_runs cx agree name b = header_step_by_runs cx agree (out-StmtKind (out-Stmt b).kind) name b
 
@@ -215,11 +223,13 @@ module _ (h : Shapes) (last : State) where
     header_runs cx agree name start c b = bind (int_value_runs h last cx agree start) (λ a. bind (declare_runs last cx name plain_int (λ x. tt)) (λ k.
         given (λ x. (x.1, x.0.1)) (header_rest_runs cx agree name k a c b)))
 
-    copied_runs : (cx : Context) → Agree h cx.tables → (name : Name) (k : ℕ) (b : Stmt) → Reads last (k < length last.made) (copied stmt cx name k b) (StatementFits h last cx.in_loop)
+    copied_runs : (cx : Context) → Agree h cx.tables → (name : Name) (k : ℕ) (b : Stmt)
+        → Reads last (k < length last.made) (copied stmt cx name k b) (StatementFits h last cx.in_loop)
     unfolding copied
     copied_runs cx agree name k b = next (bring_runs last cx name k plain_int (λ x. x) (λ x. tt)) (always (body_runs cx agree b))
 
-    each_runs : (cx : Context) → Agree h cx.tables → (name : Name) (k : ℕ) (b : Stmt) → Reads last (k < length last.made) (each stmt cx name k b) (StatementFits h last false)
+    each_runs : (cx : Context) → Agree h cx.tables → (name : Name) (k : ℕ) (b : Stmt)
+        → Reads last (k < length last.made) (each stmt cx name k b) (StatementFits h last false)
     each_runs cx agree name k b = looking (λ t. copied stmt (branch cx (length t.locals)) name k b) (λ t.
         given (λ x. x.0) (copied_runs (branch cx (length t.locals)) agree name k b))
 
@@ -269,7 +279,8 @@ module _ (h : Shapes) (last : State) where
 
   -- ---- each depth
 
-  statement_to_runs : (depth : ℕ) (cx : Context) → Agree h cx.tables → (b : Stmt) → Reads last (Unit {0}) (statement_to depth cx b) (StatementFits h last cx.in_loop)
+  statement_to_runs : (depth : ℕ) (cx : Context) → Agree h cx.tables → (b : Stmt)
+      → Reads last (Unit {0}) (statement_to depth cx b) (StatementFits h last cx.in_loop)
   unfolding statement_to
   statement_to_runs zero cx agree b = next (note_rule_runs h last cx _) (done s.Empty (λ x. empty_fits h last cx.in_loop))
   statement_to_runs (suc depth) cx agree b = node_runs (statement_to depth) (statement_to_runs depth) cx agree b
@@ -277,5 +288,6 @@ module _ (h : Shapes) (last : State) where
   pub statement_runs : (cx : Context) → Agree h cx.tables → (b : Stmt) → Reads last (Unit {0}) (statement cx b) (StatementFits h last cx.in_loop)
   statement_runs cx agree b = statement_to_runs 1000 cx agree b
 
-  pub function_body_runs : (cx : Context) → Agree h cx.tables → (bs : List Stmt) → Reads last (Unit {0}) (function_body cx bs) (StatementsFit h last cx.in_loop)
+  pub function_body_runs : (cx : Context) → Agree h cx.tables → (bs : List Stmt)
+      → Reads last (Unit {0}) (function_body cx bs) (StatementsFit h last cx.in_loop)
   function_body_runs cx agree bs = statements_runs statement statement_runs cx agree bs
