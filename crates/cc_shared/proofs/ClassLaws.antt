@@ -41,6 +41,7 @@ use Rattle.cc_tree.specs.declared.declarations.Param.{Param}
 use Rattle.cc_tree.specs.declared.expressions.Expr.{Expr}
 use Rattle.cc_tree.specs.declared.statements.Decl.{Decl}
 use Rattle.cc_tree.specs.declared.statements.Stmt.{Stmt}
+use Rattle.cc_source.proofs.Fits.{Clean}
 use Rattle.cc_shared.proofs.TypesOf.{IsCellType, AllCellTypes}
 use Rattle.cc_shared.proofs.StateLaws.{not_empty, IfThere}
 use Rattle.cc_shared.proofs.LengthLaws.{IsLength}
@@ -48,7 +49,7 @@ use Rattle.cc_shared.proofs.ExpressionLaws.{array_length_runs}
 use Rattle.cc_shared.proofs.DeclaredLaws.{DeclaredFits, ShapeFits}
 use Rattle.cc_shared.proofs.Proper.{EachOf}
 use Rattle.cc_shared.proofs.GrammarLaws.{ProperMember, ProperItem}
-use Rattle.cc_shared.proofs.CleanLaws.{Clean, typed_fits, note_kept, param_type_fits}
+use Rattle.cc_shared.proofs.CleanLaws.{typed_fits, note_kept, param_type_fits}
 use Rattle.cc_shared.proofs.FunctionLaws.{parameter_value}
 use Rattle.cc_shared.proofs.KnownLaws.{param_same}
 use Rattle.cc_shared.proofs.SameLaws.{typed_same}

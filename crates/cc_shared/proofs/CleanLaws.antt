@@ -24,12 +24,9 @@ use Rattle.cc_tree.specs.declared.declarations.Param.{Param}
 use Rattle.cc_tree.specs.declared.statements.Base.{Base}
 use Rattle.cc_tree.specs.declared.statements.Base.TheVariants as base
 use Rattle.cc_tree.specs.declared.statements.TypeName.{TypeName}
+use Rattle.cc_source.proofs.Fits.{Clean}
 use Rattle.cc_shared.proofs.StateLaws.{not_empty}
 use Rattle.cc_shared.proofs.DeclaredLaws.{DeclaredFits, WrittenFits, int_type_fits, class_type_fits, allowed_fits}
-
--- no rule is broken
-abbrev pub Clean : State → Type 0
-Clean s = s.broken ≡ []
 
 -- ---- a type
 

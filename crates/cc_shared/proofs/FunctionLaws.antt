@@ -25,6 +25,7 @@ use Rattle.cc_scopes.specs.Scope.{Context}
 use Rattle.cc_scopes.specs.Types.{cell_kind}
 use Rattle.cc_tree.specs.declared.declarations.Function.{Function}
 use Rattle.cc_tree.specs.declared.statements.TypeName.{TypeName}
+use Rattle.cc_source.proofs.Fits.{Clean}
 use Rattle.cc_shared.proofs.TypesOf.{value_type, target_by, target_of, IsCellType, IsResultType}
 use Rattle.cc_shared.proofs.Det.{Ends, Stands, LocalsFit}
 use Rattle.cc_shared.proofs.Forms.{StmtsFit}
@@ -34,7 +35,7 @@ use Rattle.cc_shared.proofs.DeclarationLaws.{kind_sync}
 use Rattle.cc_shared.proofs.Goes.{PartsFrom, Good}
 use Rattle.cc_shared.proofs.Proper.{EachOf, AlwaysProper}
 use Rattle.cc_shared.proofs.StatementLaws.{function_body_g}
-use Rattle.cc_shared.proofs.CleanLaws.{Clean, typed_kept, typed_fits, note_kept, AllParameters, AreNumbered, ParamsDone, params_done, params_fit}
+use Rattle.cc_shared.proofs.CleanLaws.{typed_kept, typed_fits, note_kept, AllParameters, AreNumbered, ParamsDone, params_done, params_fit}
 
 -- ---- lists
 

@@ -31,12 +31,13 @@ use Rattle.cc_tree.specs.declared.declarations.Item.{Item}
 use Rattle.cc_tree.specs.declared.declarations.Item.TheVariants as item
 use Rattle.cc_tree.specs.declared.declarations.Member.{Member}
 use Rattle.cc_tree.specs.declared.declarations.Member.TheVariants as member
+use Rattle.cc_source.proofs.Fits.{Clean}
 use Rattle.cc_shared.proofs.Runs.{IsThere, Anything}
 use Rattle.cc_shared.proofs.TypesOf.{value_type, target_of}
 use Rattle.cc_shared.proofs.Det.{Matches, Stands}
 use Rattle.cc_shared.proofs.Proper.{EachOf}
 use Rattle.cc_shared.proofs.GrammarLaws.{ProperFunction, ProperMember, ProperItem}
-use Rattle.cc_shared.proofs.CleanLaws.{Clean, params_done}
+use Rattle.cc_shared.proofs.CleanLaws.{params_done}
 use Rattle.cc_shared.proofs.FunctionLaws.{FunctionFits, types_in, result_fits, after_result, inner, after_params, after_body, body_ends, body_fits, parameters_fit}
 use Rattle.cc_shared.proofs.KnownLaws.{params_same, result_same}
 use Rattle.cc_shared.proofs.QuietLaws.{Quiet, function_quiet, members_quiet, items_quiet}

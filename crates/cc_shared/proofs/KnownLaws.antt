@@ -28,10 +28,11 @@ use Rattle.cc_tree.specs.declared.declarations.Item.TheVariants as item
 use Rattle.cc_tree.specs.declared.declarations.Member.{Member}
 use Rattle.cc_tree.specs.declared.declarations.Member.TheVariants as member
 use Rattle.cc_tree.specs.declared.declarations.Param.{Param}
+use Rattle.cc_source.proofs.Fits.{Clean}
 use Rattle.cc_shared.proofs.TypesOf.{IsCellType, IsResultType, AllCellTypes}
 use Rattle.cc_shared.proofs.Proper.{EachOf}
 use Rattle.cc_shared.proofs.GrammarLaws.{ProperFunction, ProperMember, ProperItem}
-use Rattle.cc_shared.proofs.CleanLaws.{Clean, note_kept, AllParameters, type_clean, params_done, params_fit}
+use Rattle.cc_shared.proofs.CleanLaws.{note_kept, AllParameters, type_clean, params_done, params_fit}
 use Rattle.cc_shared.proofs.FunctionLaws.{parameter_value, result_fits, after_result, inner, after_body, body_ends}
 use Rattle.cc_shared.proofs.SameLaws.{typed_same}
 use Rattle.cc_shared.proofs.QuietLaws.{Quiet, members_quiet, items_quiet}

@@ -32,6 +32,7 @@ use Rattle.cc_tree.specs.declared.statements.Decl.{Decl}
 use Rattle.cc_tree.specs.declared.statements.Stmt.{Stmt, out-Stmt}
 use Rattle.cc_tree.specs.declared.statements.StmtKind.TheOpen.{StmtKind-F}
 use Rattle.cc_typing.specs.Whole.{constant}
+use Rattle.cc_source.proofs.Fits.{Clean}
 use Rattle.cc_shared.proofs.Det.{Ends}
 use Rattle.cc_shared.proofs.StateLaws.{not_empty}
 use Rattle.cc_shared.proofs.ExpressionLaws.{constant_runs}
@@ -39,7 +40,7 @@ use Rattle.cc_shared.proofs.DeclaredLaws.{field_runs}
 use Rattle.cc_shared.proofs.AssignmentLaws.{assignment_runs}
 use Rattle.cc_shared.proofs.Proper.{Layer, layer, EachOf}
 use Rattle.cc_shared.proofs.GrammarLaws.{ProperFunction, ProperMember, ProperItem}
-use Rattle.cc_shared.proofs.CleanLaws.{Clean, note_kept, param_is}
+use Rattle.cc_shared.proofs.CleanLaws.{note_kept, param_is}
 use Rattle.cc_shared.proofs.FunctionLaws.{none_atomic, atomic_kept, parts_ends}
 
 -- no rule is broken

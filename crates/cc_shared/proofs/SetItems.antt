@@ -26,11 +26,12 @@ use Rattle.cc_tree.specs.declared.declarations.Member.{Member}
 use Rattle.cc_tree.specs.declared.declarations.Member.TheVariants as member
 use Rattle.cc_tree.specs.declared.declarations.Param.{Param}
 use Rattle.cc_tree.specs.declared.statements.Stmt.{Stmt}
+use Rattle.cc_source.proofs.Fits.{Clean}
 use Rattle.cc_shared.proofs.TypesOf.{value_type, target_of, IsCellType}
 use Rattle.cc_shared.proofs.Det.{LocalsFit}
 use Rattle.cc_shared.proofs.Proper.{EachOf}
 use Rattle.cc_shared.proofs.GrammarLaws.{ProperMember}
-use Rattle.cc_shared.proofs.CleanLaws.{Clean, AllParameters, AreNumbered, assoc, one_longer, note_kept, param_is, param_type_fits}
+use Rattle.cc_shared.proofs.CleanLaws.{AllParameters, AreNumbered, assoc, one_longer, note_kept, param_is, param_type_fits}
 use Rattle.cc_shared.proofs.FunctionLaws.{slice_mapped, parameter_value}
 use Rattle.cc_shared.proofs.KnownLaws.{param_same}
 use Rattle.cc_shared.proofs.QuietLaws.{Quiet, members_quiet, sets_quiet, params_in_quiet}

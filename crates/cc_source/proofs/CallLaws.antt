@@ -27,7 +27,7 @@ use Rattle.cc_typing.specs.Calls.{given as value_given, entered_unless, called_a
 use Rattle.cc_source.proofs.Runs.{IfThere, Anything, given, next, done}
 use Rattle.cc_source.proofs.FitLaws.{width_of, before_them, one_more, call_fits, this_fits}
 use Rattle.cc_source.proofs.Fits.{ExpressionFits, ExpressionsFit}
-use Rattle.cc_source.proofs.Sound.{HasParams, Agree, Reads, OperandFits, TypedFits}
+use Rattle.cc_source.proofs.Sound.{HasParams, Reads, knowing, OperandFits, TypedFits}
 use Rattle.cc_source.proofs.StateLaws.{block_runs, call_runs}
 use Rattle.cc_source.proofs.ScopeLaws.{broken_runs, decay_runs}
 
@@ -51,7 +51,8 @@ with_arg_fits h last None v p q = tt
 with_arg_fits h last (Some a) None p q = tt
 with_arg_fits h last (Some a) (Some v) p q = (one_more h last a.terms v.term p.0 q, same_more a.types a.terms v.ty v.term p.1)
 
-pub passed_runs : (h : Shapes) (last : State) (cx : Context) (t : Typed) → Reads last (TypedFits h last t) (passed cx t) (IfThere (OperandFits h last))
+pub passed_runs : (h : Shapes) (last : State) (cx : Context) (t : Typed)
+    → Reads h last cx (TypedFits h last t) (passed cx t) (IfThere (OperandFits h last))
 passed_runs h last cx (typed.Object o) = done (Some (object_passed o)) (λ x. x)
 passed_runs h last cx typed.Broken = decay_runs h last cx typed.Broken
 passed_runs h last cx typed.Spoiled = decay_runs h last cx typed.Spoiled
@@ -92,7 +93,8 @@ module _ (h : Shapes) (last : State) (cx : Context) where
   counted_on : (w k a : ℕ) → w ≡ k → a ≡ k → suc w ≡ 1 + a
   counted_on w k a p q = omega (arith, p, q)
 
-  call_term_fits : (f : FunId) (c : Callee) (g : Signature) (es : List Expression) → HasParams h f.0 g → CalleeFits h last c → ExpressionsFit h last es
+  call_term_fits : (f : FunId) (c : Callee) (g : Signature) (es : List Expression) → HasParams h f.0 g → CalleeFits h last c
+      → ExpressionsFit h last es
       → length es ≡ length g.params → ExpressionFits h last (call_term f c es)
   call_term_fits f callee.Alone g es has p q is =
       call_fits h last how.Alone f.0 es q (has.0, counted_alone _ _ _ (width_of es ∙ is) has.1)
@@ -108,42 +110,43 @@ module _ (h : Shapes) (last : State) (cx : Context) where
   given_fits ty.Void x p = p
   given_fits (ty.Pointer to remote) x p = p
 
-  enter_runs : (f : FunId) (b : Bool) {P : Type 0} → Reads last P (enter cx f b) Anything
-  enter_runs f true = block_runs last cx.line
-  enter_runs f false = call_runs last f cx.line
+  enter_runs : (f : FunId) (b : Bool) {P : Type 0} → Reads h last cx P (enter cx f b) Anything
+  enter_runs f true = block_runs h last cx cx.line
+  enter_runs f false = call_runs h last cx f cx.line
 
   abbrev Given : Callee → List Ty → List Expression → Type 0
   Given c types es = CalleeFits h last c × ArgsFit h last (record { types = types; terms = es })
 
-  entered_runs : (f : FunId) (g : Signature) (c : Callee) (types : List Ty) (es : List Expression) → HasParams h f.0 g
-      → length types ≡ length g.params → Reads last (Given c types es) (entered cx f g.result c es) (TypedFits h last)
+  entered_runs : (f : FunId) (g : Signature) (c : Callee) (types : List Ty) (es : List Expression) → length types ≡ length g.params
+      → Reads h last cx (Given c types es × HasParams h f.0 g) (entered cx f g.result c es) (TypedFits h last)
   unfolding entered
-  entered_runs f g c types es has is = next (enter_runs f (is_remote c)) (done (value_given g.result (call_term f c es)) (λ x.
-      given_fits g.result _ (call_term_fits f c g es has x.0 x.1.0 (sym x.1.1 ∙ is))))
+  entered_runs f g c types es is = next (enter_runs f (is_remote c)) (done (value_given g.result (call_term f c es)) (λ x.
+      given_fits g.result _ (call_term_fits f c g es x.1 x.0.0 x.0.1.0 (sym x.0.1.1 ∙ is))))
 
-  entered_unless_runs : (r : Option StaticRule) (f : FunId) (g : Signature) (c : Callee) (types : List Ty) (es : List Expression) → HasParams h f.0 g
-      → call_rule g (is_remote c) types ≡ r → Reads last (Given c types es) (entered_unless r cx f g.result c es) (TypedFits h last)
-  entered_unless_runs (Some rule) f g c types es has is = broken_runs h last cx rule
-  entered_unless_runs None f g c types es has is = entered_runs f g c types es has (call_counted g (is_remote c) types is)
+  entered_unless_runs : (r : Option StaticRule) (f : FunId) (g : Signature) (c : Callee) (types : List Ty) (es : List Expression)
+      → call_rule g (is_remote c) types ≡ r
+      → Reads h last cx (Given c types es × HasParams h f.0 g) (entered_unless r cx f g.result c es) (TypedFits h last)
+  entered_unless_runs (Some rule) f g c types es is = broken_runs h last cx rule
+  entered_unless_runs None f g c types es is = entered_runs f g c types es (call_counted g (is_remote c) types is)
 
-  module _ (agree : Agree h cx.tables) where
-    called_as_runs : (o : Option Signature) (f : FunId) (c : Callee) (a : Args) → slice_get cx.tables.functions f.0 ≡ o
-        → Reads last (CalleeFits h last c × ArgsFit h last a) (called_as o cx f c a) (TypedFits h last)
-    called_as_runs None f c a is = broken_runs h last cx _
-    called_as_runs (Some g) f c a is =
-        entered_unless_runs (call_rule g (is_remote c) a.types) f g c a.types a.terms (agree.functions f.0 g is) refl
+  called_as_runs : (o : Option Signature) (f : FunId) (c : Callee) (a : Args) → slice_get cx.tables.functions f.0 ≡ o
+      → Reads h last cx (CalleeFits h last c × ArgsFit h last a) (called_as o cx f c a) (TypedFits h last)
+  called_as_runs None f c a is = broken_runs h last cx _
+  called_as_runs (Some g) f c a is = knowing h last cx (λ agree x. (x, agree.functions f.0 g is))
+      (entered_unless_runs (call_rule g (is_remote c) a.types) f g c a.types a.terms refl)
 
-    pub called_runs : (f : FunId) (c : Callee) (a : Args) → Reads last (CalleeFits h last c × ArgsFit h last a) (called cx f c a) (TypedFits h last)
-    called_runs f c a = called_as_runs (slice_get cx.tables.functions f.0) f c a refl
+  pub called_runs : (f : FunId) (c : Callee) (a : Args)
+      → Reads h last cx (CalleeFits h last c × ArgsFit h last a) (called cx f c a) (TypedFits h last)
+  called_runs f c a = called_as_runs (slice_get cx.tables.functions f.0) f c a refl
 
-    called_name_runs : (x : Meaning) (a : Args) → Reads last (ArgsFit h last a) (called_name cx x a) (TypedFits h last)
-    called_name_runs (m.Variable found) a = broken_runs h last cx _
-    called_name_runs (m.Field declared offset) a = broken_runs h last cx _
-    called_name_runs (m.Method f) a = given (λ x. (this_fits h last, x)) (called_runs f (callee.On e.This) a)
-    called_name_runs (m.Constant b z) a = broken_runs h last cx _
-    called_name_runs (m.Function f) a = given (λ x. (tt, x)) (called_runs f callee.Alone a)
-    called_name_runs m.Nothing a = broken_runs h last cx _
+  called_name_runs : (x : Meaning) (a : Args) → Reads h last cx (ArgsFit h last a) (called_name cx x a) (TypedFits h last)
+  called_name_runs (m.Variable found) a = broken_runs h last cx _
+  called_name_runs (m.Field declared offset) a = broken_runs h last cx _
+  called_name_runs (m.Method f) a = given (λ x. (this_fits h last, x)) (called_runs f (callee.On e.This) a)
+  called_name_runs (m.Constant b z) a = broken_runs h last cx _
+  called_name_runs (m.Function f) a = given (λ x. (tt, x)) (called_runs f callee.Alone a)
+  called_name_runs m.Nothing a = broken_runs h last cx _
 
-    pub call_named_runs : (x : Meaning) (a : Option Args) → Reads last (IfThere (ArgsFit h last) a) (call_named cx x a) (TypedFits h last)
-    call_named_runs x None = done typed.Spoiled (λ p. tt)
-    call_named_runs x (Some a) = called_name_runs x a
+  pub call_named_runs : (x : Meaning) (a : Option Args) → Reads h last cx (IfThere (ArgsFit h last) a) (call_named cx x a) (TypedFits h last)
+  call_named_runs x None = done typed.Spoiled (λ p. tt)
+  call_named_runs x (Some a) = called_name_runs x a

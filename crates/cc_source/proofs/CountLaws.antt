@@ -192,7 +192,8 @@ module _ (names : NameTables) (tables : Tables) where
       items_arities r.0.constants r.0.classes r.0.done xs r.1 ∙ then_more d.functions _ (length f.params) (function_counts xs)
       (function_arity (outside names tables k None f.line) (is_main f.name) f.name f s)
 
-  pub items_makers : (k c : ℕ) (d : Done) (xs : List Item) (s : State) → makers (items_from names tables (record { constants = k; classes = c; done = d }) xs s).0.done ≡ makers d ++ last_counts xs
+  pub items_makers : (k c : ℕ) (d : Done) (xs : List Item) (s : State)
+      → makers (items_from names tables (record { constants = k; classes = c; done = d }) xs s).0.done ≡ makers d ++ last_counts xs
   unfolding after_constant after_class after_function class_item function_item
   items_makers k c d [] s = sym (append-nil (makers d))
   items_makers k c d (item.Const name value line ∷ xs) s =

@@ -18,7 +18,7 @@ use Rattle.cc_core.specs.declared.program.Function.{Function as CoreFunction}
 use Rattle.cc_functions.specs.Functions.{begin, is_plain_int, param_at, param, params_from, result_of, in_function, parts, kinds_of, share_atomic, function_at, function}
 use Rattle.cc_source.proofs.Runs.{Anything, always, bind, next, done}
 use Rattle.cc_source.proofs.Fits.{Clean, StatementsFit, BodyFits}
-use Rattle.cc_source.proofs.Sound.{Agree, LocalsFit, itself, Reads}
+use Rattle.cc_source.proofs.Sound.{Agree, LocalsFit, itself, Reads, no_shapes}
 use Rattle.cc_source.proofs.StateLaws.{declare_runs}
 use Rattle.cc_source.proofs.DeclaredLaws.{DeclaredFits, parameter_runs, returned_runs}
 use Rattle.cc_source.proofs.SimpleLaws.{note_if_runs}
@@ -42,47 +42,50 @@ arity_is (d ∷ ds) = let rest : arity (map kinds_of ds) ≡ length ds = arity_i
 -- ---- parameters and the result
 
 module _ (h : Shapes) (last : State) (cx : Context) where
-  param_at_runs : (m : Bool) (p : Param) {P : Type 0} → Reads last P (param_at cx m p) DeclaredFits
+  param_at_runs : (m : Bool) (p : Param) {P : Type 0} → Reads h last cx P (param_at cx m p) DeclaredFits
   unfolding param_at
   param_at_runs m p = bind (parameter_runs h last cx p.ty) (λ d. next (note_if_runs h last cx (m && not (is_plain_int d)) r.BadMain) (
-      next (declare_runs last cx p.name d (λ x. x.1)) (done d (λ x. x.1))))
+      next (declare_runs h last cx p.name d (λ x. x.1)) (done d (λ x. x.1))))
 
-  pub result_of_runs : (m : Bool) (t : TypeName) {P : Type 0} → Reads last P (result_of cx m t) Anything
+  pub result_of_runs : (m : Bool) (t : TypeName) {P : Type 0} → Reads h last cx P (result_of cx m t) Anything
   unfolding result_of
   result_of_runs m t = bind (returned_runs h last cx t) (λ d. next (note_if_runs h last cx (m && not (is_plain_int d)) r.BadMain) (done (value_type d) (λ x. tt)))
 
-pub param_runs : (h : Shapes) (last : State) (cx : Context) (m : Bool) (p : Param) {P : Type 0} → Reads last P (param cx m p) DeclaredFits
+pub param_runs : (h : Shapes) (last : State) (cx : Context) (m : Bool) (p : Param) {P : Type 0} → Reads h last cx P (param cx m p) DeclaredFits
 param_runs h last cx m p = param_at_runs h last (at_line cx p.line) m p
 
 params_from_runs : (h : Shapes) (last : State) (cx : Context) (m : Bool) (ds : List Declared) (ps : List Param) {P : Type 0}
-    → Reads last P (params_from cx m ds ps) Anything
+    → Reads h last cx P (params_from cx m ds ps) Anything
 params_from_runs h last cx m ds [] = done ds (λ x. tt)
 params_from_runs h last cx m ds (p ∷ ps) = bind (param_runs h last cx m p) (λ d. params_from_runs h last cx m (ds ++ d ∷ []) ps)
 
-makes_param_at : (h : Shapes) (cx : Context) (m : Bool) (p : Param) → Makes 1 (param_at cx m p)
+makes_param_at : (cx : Context) (m : Bool) (p : Param) → Makes 1 (param_at cx m p)
 unfolding param_at
-makes_param_at h cx m p = makes_then 0 1 1 refl (makes_none {P = Unit {0}} (λ last. parameter_runs h last cx p.ty)) (λ d.
-    makes_then 0 1 1 refl (makes_none {P = Unit {0}} (λ last. note_if_runs h last cx (m && not (is_plain_int d)) r.BadMain)) (λ u.
+makes_param_at cx m p = makes_then 0 1 1 refl (makes_none cx {P = Unit {0}} (λ last. parameter_runs no_shapes last cx p.ty)) (λ d.
+    makes_then 0 1 1 refl (makes_none cx {P = Unit {0}} (λ last. note_if_runs no_shapes last cx (m && not (is_plain_int d)) r.BadMain)) (λ u.
     makes_then 1 0 1 refl (makes_one cx p.name d) (λ k. makes_pure d)))
 
-makes_params : (h : Shapes) (cx : Context) (m : Bool) (ds : List Declared) (ps : List Param) → Makes (length ps) (params_from cx m ds ps)
-makes_params h cx m ds [] = makes_pure ds
-makes_params h cx m ds (p ∷ ps) = makes_then 1 (length ps) (suc (length ps)) (omega arith) (makes_param_at h (at_line cx p.line) m p) (λ d.
-    makes_params h cx m (ds ++ d ∷ []) ps)
+makes_params : (cx : Context) (m : Bool) (ds : List Declared) (ps : List Param) → Makes (length ps) (params_from cx m ds ps)
+makes_params cx m ds [] = makes_pure ds
+makes_params cx m ds (p ∷ ps) = makes_then 1 (length ps) (suc (length ps)) (omega arith) (makes_param_at (at_line cx p.line) m p) (λ d.
+    makes_params cx m (ds ++ d ∷ []) ps)
 
 -- ---- parts
 
-module _ (h : Shapes) (cx : Context) (agree : Agree h cx.tables) where
-  pub parts_runs : (last : State) (m : Bool) (f : Function) → Reads last (Unit {0}) (parts cx m f) (λ p. StatementsFit h last false p.body)
+module _ (cx : Context) where
+  pub parts_runs : (h : Shapes) (last : State) (m : Bool) (f : Function)
+      → Reads h last cx (Unit {0}) (parts cx m f) (λ p. StatementsFit h last false p.body)
   unfolding parts
-  parts_runs last m f = bind (result_of_runs h last cx m f.result) (λ t. bind (params_from_runs h last (in_function cx t m) m [] f.params) (λ ds.
-      bind (always (function_body_runs h last (in_function cx t m) agree f.body)) (λ body. done (record { result = t; params = ds; body = body }) (λ x. x.1))))
+  parts_runs h last m f = bind (result_of_runs h last cx m f.result) (λ t. bind (params_from_runs h last (in_function cx t m) m [] f.params) (λ ds.
+      bind (always (function_body_runs h last (in_function cx t m) f.body)) (λ body. done (record { result = t; params = ds; body = body }) (λ x. x.1))))
 
   makes_parts : (m : Bool) (f : Function) → Makes (length f.params) (parts cx m f)
   unfolding parts
-  makes_parts m f = makes_then 0 (length f.params) (length f.params) (omega arith) (makes_none {P = Unit {0}} (λ last. result_of_runs h last cx m f.result)) (λ t.
-      makes_then (length f.params) 0 (length f.params) (omega arith) (makes_params h (in_function cx t m) m [] f.params) (λ ds.
-      makes_then 0 0 0 refl (makes_none (λ last. function_body_runs h last (in_function cx t m) agree f.body)) (λ body. makes_pure (record { result = t; params = ds; body = body }))))
+  makes_parts m f = makes_then 0 (length f.params) (length f.params) (omega arith) (makes_none cx {P = Unit {0}} (λ last.
+      result_of_runs no_shapes last cx m f.result)) (λ t.
+      makes_then (length f.params) 0 (length f.params) (omega arith) (makes_params (in_function cx t m) m [] f.params) (λ ds.
+      makes_then 0 0 0 refl (makes_none cx (λ last. function_body_runs no_shapes last (in_function cx t m) f.body)) (λ body.
+      makes_pure (record { result = t; params = ds; body = body }))))
 
 parts_counted : (cx : Context) (m : Bool) (f : Function) (s : State) → length (parts cx m f s).0.params ≡ length f.params
 unfolding parts
@@ -122,8 +125,8 @@ module _ (cx : Context) (m : Bool) (name : Name) (f : Function) (s : State) wher
       let here = at_line cx f.line in
       let before = (share_atomic f.atomic here (begin s).1).1 in
       let last = (parts here m f before).1 in
-      let q = (parts_runs h here agree last m f).run before (itself last) in
+      let q = (parts_runs here h last m f).run before (itself last) in
       let w : LocalsFit last before.locals = subst (λ ls. LocalsFit last ls) (sym (nothing_made f.atomic here s)) tt in
-      let fits = (q.1 tt w).1 in
-      let made : length before.made + length f.params ≤ length last.made = (makes_parts h here agree m f).more before in
+      let fits = (q.1 tt (w, agree)).1 in
+      let made : length before.made + length f.params ≤ length last.made = (makes_parts here m f).more before in
       record { body = (fits.0 clean, fits.1); variables = omega (arith, made) }

@@ -63,7 +63,7 @@ module _ (h : Shapes) where
       let few = few_params f.params (empty_before (parameter_rules f.params) (member_rules ms) rules) in
       members_fine cx agree class (with_function d r.0) shape ms r.1 (empty_behind (parameter_rules f.params) (member_rules ms) rules) clean
       (all_and_one (FunctionIsFine h) d.functions r.0.function all (function_is_fine cx agree false name f s few
-      (members_clean h cx agree class (with_function d r.0) shape ms r.1 clean)))
+      (members_clean cx class (with_function d r.0) shape ms r.1 clean)))
   members_fine cx agree class d shape (member.Build name params body line ∷ ms) s rules clean all =
       let r = member_by (member.Build name params body line) cx class d shape s in
       members_fine cx agree class d r.0.1 ms r.1 (empty_behind (parameter_rules params) (member_rules ms) rules) clean all
@@ -81,11 +81,11 @@ module _ (h : Shapes) where
         let keeps = rules_of_class class.members (empty_before (class_rules class.members) (item_rules xs) rules) in
         items_fine r.0.constants r.0.classes r.0.done xs r.1 (empty_behind (class_rules class.members) (item_rules xs) rules) clean
         (members_fine (outside names tables k (Some (class_id c)) class.line) agree class d no_members class.members s keeps.members
-        (items_clean h names tables agree r.0.constants r.0.classes r.0.done xs r.1 clean) all)
+        (items_clean names tables r.0.constants r.0.classes r.0.done xs r.1 clean) all)
     items_fine k c d (item.Func f ∷ xs) s rules clean all =
         let r = after_function names tables (record { constants = k; classes = c; done = d }) f s in
         let few = few_params f.params (empty_before (parameter_rules f.params) (item_rules xs) rules) in
         items_fine r.0.constants r.0.classes r.0.done xs r.1 (empty_behind (parameter_rules f.params) (item_rules xs) rules) clean
         (all_and_one (FunctionIsFine h) d.functions _ all
         (function_is_fine (outside names tables k None f.line) agree (is_main f.name) f.name f s few
-        (items_clean h names tables agree r.0.constants r.0.classes r.0.done xs r.1 clean)))
+        (items_clean names tables r.0.constants r.0.classes r.0.done xs r.1 clean)))

@@ -43,7 +43,7 @@ use Rattle.cc_scopes.specs.Lengths.{no_length, natural, length_in_range, value_l
 use Rattle.cc_source.proofs.Runs.{IfThere, Anything, given, next, done, looking}
 use Rattle.cc_source.proofs.FitLaws.{push_fits, this_fits, variable_fits, member_fits, load_fits}
 use Rattle.cc_source.proofs.Fits.{Clean, ExpressionFits}
-use Rattle.cc_source.proofs.Sound.{IsLength, HasCells, MemberHasCells, Agree, FoundFits, MeaningFits, Keeps, Reads, OperandFits, TypedFits}
+use Rattle.cc_source.proofs.Sound.{IsLength, HasCells, MemberHasCells, Agree, FoundFits, LocalsFit, MeaningFits, Reads, OperandFits, TypedFits}
 use Rattle.cc_source.proofs.StateLaws.{found_fits, note_runs, share_runs, block_if_runs}
 
 -- ---- members and names
@@ -90,7 +90,7 @@ module _ (h : Shapes) (cx : Context) (agree : Agree h cx.tables) where
     variable_or_fits None text p = outside_fits cx.class text
     variable_or_fits (Some x) text p = p
 
-    pub meant_fits : (text : Name) (s : State) → Keeps last s → MeaningFits last (meant cx text s)
+    pub meant_fits : (text : Name) (s : State) → LocalsFit last s.locals → MeaningFits last (meant cx text s)
     meant_fits text s k = variable_or_fits (variable text s.locals) text (found_fits last text s.locals k)
 
     meant_in_by : (x : Option Member) → IfThere MemberHasCells x → MeaningFits last (meant_in x)
@@ -103,13 +103,13 @@ module _ (h : Shapes) (cx : Context) (agree : Agree h cx.tables) where
 -- ---- rules that are broken
 
 module _ (h : Shapes) (last : State) (cx : Context) {P : Type 0} where
-  pub note_rule_runs : (rule : StaticRule) → Reads last P (note_rule cx rule) (λ u. Clean last → ⊥)
-  note_rule_runs rule = note_runs last (Rule rule cx.line)
+  pub note_rule_runs : (rule : StaticRule) → Reads h last cx P (note_rule cx rule) (λ u. Clean last → ⊥)
+  note_rule_runs rule = note_runs h last cx (Rule rule cx.line)
 
-  pub broken_runs : (rule : StaticRule) → Reads last P (broken cx rule) (TypedFits h last)
+  pub broken_runs : (rule : StaticRule) → Reads h last cx P (broken cx rule) (TypedFits h last)
   broken_runs rule = next (note_rule_runs rule) (done typed.Broken (λ x. tt))
 
-  pub no_operand_runs : (rule : StaticRule) → Reads last P (no_operand cx rule) (IfThere (OperandFits h last))
+  pub no_operand_runs : (rule : StaticRule) → Reads h last cx P (no_operand cx rule) (IfThere (OperandFits h last))
   no_operand_runs rule = next (note_rule_runs rule) (done None (λ x. tt))
 
 -- ---- what stands at an address
@@ -127,7 +127,8 @@ module _ (h : Shapes) (last : State) where
   placed_as_fits ty.Void shape p c f = placed_by_fits shape p c f
   placed_as_fits (ty.Pointer to remote) shape p c f = placed_by_fits shape p c f
 
-  pub placed_fits : (x : _) (d : Declared) (remote : Bool) (root : Root) → HasCells d.shape → ExpressionFits h last x → TypedFits h last (placed x d remote root)
+  pub placed_fits : (x : _) (d : Declared) (remote : Bool) (root : Root) → HasCells d.shape → ExpressionFits h last x
+      → TypedFits h last (placed x d remote root)
   placed_fits x d remote root c f = placed_as_fits d.ty d.shape (place_of x d remote root) c f
 
   pub literal_fits : (z : ℤ) → TypedFits h last (literal z)
@@ -136,34 +137,35 @@ module _ (h : Shapes) (last : State) where
 -- ---- values
 
 module _ (h : Shapes) (last : State) (cx : Context) where
-  load_runs : (p : Place) → Reads last (ExpressionFits h last p.address) (load cx p) (IfThere (OperandFits h last))
+  load_runs : (p : Place) → Reads h last cx (ExpressionFits h last p.address) (load cx p) (IfThere (OperandFits h last))
   unfolding load
-  load_runs p = next (block_if_runs last (may_wait p) cx.line) (done (Some (loaded p)) (λ x. load_fits h last p.remote p.address x))
+  load_runs p = next (block_if_runs h last cx (may_wait p) cx.line) (done (Some (loaded p)) (λ x. load_fits h last p.remote p.address x))
 
-  load_unless_runs : (b : Bool) (p : Place) → Reads last (ExpressionFits h last p.address) (load_unless b cx p) (IfThere (OperandFits h last))
+  load_unless_runs : (b : Bool) (p : Place) → Reads h last cx (ExpressionFits h last p.address) (load_unless b cx p) (IfThere (OperandFits h last))
   load_unless_runs true p = no_operand_runs h last cx _
   load_unless_runs false p = load_runs p
 
-  pub share_address_runs : (sync : Bool) {P : Type 0} → Reads last P (share_address sync cx) Anything
+  pub share_address_runs : (sync : Bool) {P : Type 0} → Reads h last cx P (share_address sync cx) Anything
   share_address_runs true = done tt (λ x. tt)
-  share_address_runs false = share_runs last _ _
+  share_address_runs false = share_runs h last cx _ _
 
-  pointed_runs : (p : Place) → Reads last (ExpressionFits h last p.address) (pointed cx p) (IfThere (OperandFits h last))
+  pointed_runs : (p : Place) → Reads h last cx (ExpressionFits h last p.address) (pointed cx p) (IfThere (OperandFits h last))
   unfolding pointed
   pointed_runs p = next (share_address_runs p.sync) (done (Some (pointer_to p)) (λ x. x))
 
-  first_unless_runs : (o : Option StaticRule) (p : Place) → Reads last (ExpressionFits h last p.address) (first_unless o cx p) (IfThere (OperandFits h last))
+  first_unless_runs : (o : Option StaticRule) (p : Place)
+      → Reads h last cx (ExpressionFits h last p.address) (first_unless o cx p) (IfThere (OperandFits h last))
   first_unless_runs (Some rule) p = no_operand_runs h last cx rule
   first_unless_runs None p = pointed_runs p
 
-  not_void_runs : (t : Ty) (v : Operand) → Reads last (OperandFits h last v) (not_void_by t cx v) (IfThere (OperandFits h last))
+  not_void_runs : (t : Ty) (v : Operand) → Reads h last cx (OperandFits h last v) (not_void_by t cx v) (IfThere (OperandFits h last))
   not_void_runs ty.Void v = no_operand_runs h last cx _
   not_void_runs ty.Int v = done (Some v) (λ x. x)
   not_void_runs ty.Null v = done (Some v) (λ x. x)
   not_void_runs ty.Unknown v = done (Some v) (λ x. x)
   not_void_runs (ty.Pointer to remote) v = done (Some v) (λ x. x)
 
-  pub decay_runs : (t : Typed) → Reads last (TypedFits h last t) (decay cx t) (IfThere (OperandFits h last))
+  pub decay_runs : (t : Typed) → Reads h last cx (TypedFits h last t) (decay cx t) (IfThere (OperandFits h last))
   decay_runs typed.Broken = done None (λ x. tt)
   decay_runs typed.Spoiled = done None (λ x. tt)
   decay_runs (typed.Value v) = not_void_runs v.ty v
@@ -187,7 +189,7 @@ module _ (h : Shapes) (last : State) (cx : Context) where
   own_field_fits : (d : Declared) (o : ℕ) → HasCells d.shape → TypedFits h last (own_field d o)
   own_field_fits d o c = placed_fits h last (e.Member e.This o) d false root.Member c (member_fits h last e.This o (this_fits h last))
 
-  pub of_meaning_runs : (x : Meaning) → Reads last (MeaningFits last x) (of_meaning cx x) (TypedFits h last)
+  pub of_meaning_runs : (x : Meaning) → Reads h last cx (MeaningFits last x) (of_meaning cx x) (TypedFits h last)
   of_meaning_runs (m.Variable f) = done (of_variable f) (λ x. of_variable_fits f x)
   of_meaning_runs (m.Field declared offset) = done (own_field declared offset) (λ x. own_field_fits declared offset x)
   of_meaning_runs (m.Method f) = broken_runs h last cx _
@@ -195,21 +197,21 @@ module _ (h : Shapes) (last : State) (cx : Context) where
   of_meaning_runs (m.Function f) = broken_runs h last cx _
   of_meaning_runs m.Nothing = broken_runs h last cx _
 
-  this_in_runs : (k : Option Class) (class : ClassId) {P : Type 0} → Reads last P (this_in k cx class) (TypedFits h last)
+  this_in_runs : (k : Option Class) (class : ClassId) {P : Type 0} → Reads h last cx P (this_in k cx class) (TypedFits h last)
   this_in_runs None class = broken_runs h last cx _
   this_in_runs (Some k) class = done (typed.This class k.remote) (λ x. tt)
 
-  this_by_runs : (o : Option ClassId) {P : Type 0} → Reads last P (this_by o cx) (TypedFits h last)
+  this_by_runs : (o : Option ClassId) {P : Type 0} → Reads h last cx P (this_by o cx) (TypedFits h last)
   this_by_runs None = broken_runs h last cx _
   this_by_runs (Some class) = this_in_runs (class_at cx class) class
 
-  pub this_runs : {P : Type 0} → Reads last P (this cx) (TypedFits h last)
+  pub this_runs : {P : Type 0} → Reads h last cx P (this cx) (TypedFits h last)
   this_runs = this_by_runs cx.class
 
   -- ---- lengths
 
-  no_length_runs : (b : Broken) {P : Type 0} → Reads last P (no_length b) (IfThere IsLength)
-  no_length_runs b = next (note_runs last b) (done None (λ x. tt))
+  no_length_runs : (b : Broken) {P : Type 0} → Reads h last cx P (no_length b) (IfThere IsLength)
+  no_length_runs b = next (note_runs h last cx b) (done None (λ x. tt))
 
   above_zero : (z : ℤ) → int_lt z (pos 1) ≡ false → 1 ≤ natural z
   above_zero (pos zero) is = absurd (true≢false is)
@@ -229,22 +231,22 @@ module _ (h : Shapes) (last : State) (cx : Context) where
   right_false false b is = is
 
   in_range_or_not : (b : Bool) (z : ℤ) → (b ≡ false → IsLength (natural z)) → {P : Type 0}
-      → Reads last P (if b then no_length (Limit ArrayLength cx.line) else pure (Some (natural z))) (IfThere IsLength)
+      → Reads h last cx P (if b then no_length (Limit ArrayLength cx.line) else pure (Some (natural z))) (IfThere IsLength)
   in_range_or_not true z f = no_length_runs _
   in_range_or_not false z f = done (Some (natural z)) (λ x. f refl)
 
-  length_in_range_runs : (z : ℤ) {P : Type 0} → Reads last P (length_in_range cx z) (IfThere IsLength)
+  length_in_range_runs : (z : ℤ) {P : Type 0} → Reads h last cx P (length_in_range cx z) (IfThere IsLength)
   unfolding length_in_range
   length_in_range_runs z = in_range_or_not (int_lt z (pos 1) || int_lt (pos 65536) z) z (λ is. (
     above_zero z (left_false (int_lt z (pos 1)) (int_lt (pos 65536) z) is),
     few z (right_false (int_lt z (pos 1)) (int_lt (pos 65536) z) is),
   ))
 
-  value_length_runs : (o : Option ℤ) {P : Type 0} → Reads last P (value_length cx o) (IfThere IsLength)
+  value_length_runs : (o : Option ℤ) {P : Type 0} → Reads h last cx P (value_length cx o) (IfThere IsLength)
   value_length_runs None = no_length_runs _
   value_length_runs (Some z) = length_in_range_runs z
 
-  pub length_of_runs : (t : Typed) {P : Type 0} → Reads last P (length_of cx t) (IfThere IsLength)
+  pub length_of_runs : (t : Typed) {P : Type 0} → Reads h last cx P (length_of cx t) (IfThere IsLength)
   length_of_runs typed.Broken = no_length_runs _
   length_of_runs typed.Spoiled = done None (λ x. tt)
   length_of_runs (typed.Value v) = no_length_runs _
@@ -254,14 +256,14 @@ module _ (h : Shapes) (last : State) (cx : Context) where
   length_of_runs (typed.Array p k) = no_length_runs _
   length_of_runs (typed.Object o) = no_length_runs _
 
-  no_value_runs : {P : Type 0} → Reads last P (no_value cx) Anything
-  no_value_runs = next (note_runs last _) (done None (λ x. tt))
+  no_value_runs : {P : Type 0} → Reads h last cx P (no_value cx) Anything
+  no_value_runs = next (note_runs h last cx _) (done None (λ x. tt))
 
-  value_or_fault_runs : (o : Option ℤ) {P : Type 0} → Reads last P (value_or_fault cx o) Anything
+  value_or_fault_runs : (o : Option ℤ) {P : Type 0} → Reads h last cx P (value_or_fault cx o) Anything
   value_or_fault_runs None = no_value_runs
   value_or_fault_runs (Some z) = done (Some z) (λ x. tt)
 
-  pub constant_of_runs : (t : Typed) {P : Type 0} → Reads last P (constant_of cx t) Anything
+  pub constant_of_runs : (t : Typed) {P : Type 0} → Reads h last cx P (constant_of cx t) Anything
   constant_of_runs typed.Broken = no_value_runs
   constant_of_runs typed.Spoiled = done None (λ x. tt)
   constant_of_runs (typed.Value v) = no_value_runs
@@ -271,7 +273,8 @@ module _ (h : Shapes) (last : State) (cx : Context) where
   constant_of_runs (typed.Array p k) = no_value_runs
   constant_of_runs (typed.Object o) = no_value_runs
 
--- a name, in a context whose tables agree
-pub name_runs : (h : Shapes) (last : State) (cx : Context) → Agree h cx.tables → (text : Name) {P : Type 0} → Reads last P (name cx text) (TypedFits h last)
-name_runs h last cx agree text = looking (λ s. of_meaning cx (meant cx text s)) (λ s.
-    given (λ x. meant_fits h cx agree last text s x.1) (of_meaning_runs h last cx (meant cx text s)))
+-- a name
+pub name_runs : (h : Shapes) (last : State) (cx : Context) (text : Name) {P : Type 0}
+    → Reads h last cx P (name cx text) (TypedFits h last)
+name_runs h last cx text = looking (λ s. of_meaning cx (meant cx text s)) (λ s.
+    given (λ x. meant_fits h cx x.1.1 last text s x.1.0) (of_meaning_runs h last cx (meant cx text s)))

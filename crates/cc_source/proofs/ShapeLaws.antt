@@ -45,7 +45,7 @@ use Rattle.cc_source.proofs.ItemLaws.{FunctionIsFine, all_and_one}
 
 field_has_cells : (h : Shapes) (cx : Context) → Agree h cx.tables → (d : Decl) (s : State) → DeclaredFits (field cx d (begin s).1).0
 field_has_cells h cx agree d s =
-    let last = (field cx d (begin s).1).1 in (((field_runs h last cx agree d {P = Unit {0}}).run (begin s).1 (itself last)).1 tt tt).1
+    let last = (field cx d (begin s).1).1 in (((field_runs h last cx d {P = Unit {0}}).run (begin s).1 (itself last)).1 tt (tt, agree)).1
 
 -- ---- a class so far
 

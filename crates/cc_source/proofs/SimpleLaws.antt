@@ -28,7 +28,7 @@ use Rattle.cc_elaboration.specs.Simple.{printed_item, printed_from, share_print,
 use Rattle.cc_source.proofs.Runs.{IfThere, Anything, given, always, gives, bind, next, done}
 use Rattle.cc_source.proofs.FitLaws.{width_of, one_more, push_fits, empty_fits, drop_fits, print_fits, spawn_fits, return_fits}
 use Rattle.cc_source.proofs.Fits.{Clean, TermFits, ExpressionFits, ExpressionsFit, StatementFits}
-use Rattle.cc_source.proofs.Sound.{Agree, Reads, TypedFits}
+use Rattle.cc_source.proofs.Sound.{Reads, TypedFits}
 use Rattle.cc_source.proofs.StateLaws.{share_runs, block_runs}
 use Rattle.cc_source.proofs.ScopeLaws.{note_rule_runs}
 use Rattle.cc_source.proofs.ExpressionLaws.{expr_runs, operand_runs, fitting_runs}
@@ -112,78 +112,77 @@ module _ (h : Shapes) (last : State) where
   term_or_none_fits (Some x) p = p
 
 module _ (h : Shapes) (last : State) (cx : Context) where
-  share_print_runs : (b : Bool) {P : Type 0} → Reads last P (share_print b cx) Anything
+  share_print_runs : (b : Bool) {P : Type 0} → Reads h last cx P (share_print b cx) Anything
   share_print_runs true = done tt (λ x. tt)
-  share_print_runs false = share_runs last _ cx.line
+  share_print_runs false = share_runs h last cx _ cx.line
 
   -- where no rule is broken, there is none to note
-  pub note_if_runs : (b : Bool) (rule : StaticRule) {P : Type 0} → Reads last P (note_if b cx rule) (λ u. Clean last → b ≡ false)
+  pub note_if_runs : (b : Bool) (rule : StaticRule) {P : Type 0} → Reads h last cx P (note_if b cx rule) (λ u. Clean last → b ≡ false)
   note_if_runs true rule = gives (λ u never clean. absurd (never clean)) (note_rule_runs h last cx rule)
   note_if_runs false rule = done tt (λ x clean. refl)
 
-  module _ (agree : Agree h cx.tables) where
-    pub int_value_runs : (e : Expr) → Reads last (Unit {0}) (int_value cx e) (ExpressionFits h last)
-    unfolding int_value
-    int_value_runs e = bind (fitting_runs h last cx agree ty.Int e) (λ t. done (term_or_none t) (λ x. term_or_none_fits h last t x.1))
+  pub int_value_runs : (e : Expr) → Reads h last cx (Unit {0}) (int_value cx e) (ExpressionFits h last)
+  unfolding int_value
+  int_value_runs e = bind (fitting_runs h last cx ty.Int e) (λ t. done (term_or_none t) (λ x. term_or_none_fits h last t x.1))
 
-    pub call_statement_runs : (e : Expr) → Reads last (Unit {0}) (call cx e) (StatementFits h last cx.in_loop)
-    unfolding call
-    call_statement_runs e = bind (expr_runs h last cx agree e) (λ t. done (dropped t) (λ x. dropped_fits h last cx.in_loop t x.1))
+  pub call_statement_runs : (e : Expr) → Reads h last cx (Unit {0}) (call cx e) (StatementFits h last cx.in_loop)
+  unfolding call
+  call_statement_runs e = bind (expr_runs h last cx e) (λ t. done (dropped t) (λ x. dropped_fits h last cx.in_loop t x.1))
 
-    pub spawn_runs : (e : Expr) → Reads last (Unit {0}) (spawn cx e) (StatementFits h last cx.in_loop)
-    unfolding spawn
-    spawn_runs e = next (block_runs last cx.line) (bind (expr_runs h last cx agree e) (λ t. done (spawned t) (λ x. spawned_fits h last cx.in_loop t x.1)))
+  pub spawn_runs : (e : Expr) → Reads h last cx (Unit {0}) (spawn cx e) (StatementFits h last cx.in_loop)
+  unfolding spawn
+  spawn_runs e = next (block_runs h last cx cx.line) (bind (expr_runs h last cx e) (λ t. done (spawned t) (λ x. spawned_fits h last cx.in_loop t x.1)))
 
-    -- ---- cout
+  -- ---- cout
 
-    printed_value_runs : (parts : List PrintPart) (es : List Expression) (e : Expr)
-        → Reads last (PrintedFits h last parts es) (printed_value cx (record { parts = parts; values = es }) e) (λ q. PrintedFits h last q.parts q.values)
-    unfolding printed_value
-    printed_value_runs parts es e = bind (always (int_value_runs e)) (λ v. done (with_number (record { parts = parts; values = es }) v) (λ x.
-        (one_more h last es v x.0.0 x.1, more_values parts es v x.0.1)))
+  printed_value_runs : (parts : List PrintPart) (es : List Expression) (e : Expr)
+      → Reads h last cx (PrintedFits h last parts es) (printed_value cx (record { parts = parts; values = es }) e) (λ q. PrintedFits h last q.parts q.values)
+  unfolding printed_value
+  printed_value_runs parts es e = bind (always (int_value_runs e)) (λ v. done (with_number (record { parts = parts; values = es }) v) (λ x.
+      (one_more h last es v x.0.0 x.1, more_values parts es v x.0.1)))
 
-    printed_item_runs : (parts : List PrintPart) (es : List Expression) (i : PrintItem)
-        → Reads last (PrintedFits h last parts es) (printed_item cx (record { parts = parts; values = es }) i) (λ q. PrintedFits h last q.parts q.values)
-    printed_item_runs parts es (item'.Value e) = printed_value_runs parts es e
-    printed_item_runs parts es (item'.Str bytes) = done _ (λ x. (x.0, as_many_values parts (part.Text bytes) (length es) refl x.1))
-    printed_item_runs parts es item'.Endl = done _ (λ x. (x.0, as_many_values parts part.Endl (length es) refl x.1))
+  printed_item_runs : (parts : List PrintPart) (es : List Expression) (i : PrintItem)
+      → Reads h last cx (PrintedFits h last parts es) (printed_item cx (record { parts = parts; values = es }) i) (λ q. PrintedFits h last q.parts q.values)
+  printed_item_runs parts es (item'.Value e) = printed_value_runs parts es e
+  printed_item_runs parts es (item'.Str bytes) = done _ (λ x. (x.0, as_many_values parts (part.Text bytes) (length es) refl x.1))
+  printed_item_runs parts es item'.Endl = done _ (λ x. (x.0, as_many_values parts part.Endl (length es) refl x.1))
 
-    printed_from_runs : (parts : List PrintPart) (es : List Expression) (is : List PrintItem)
-        → Reads last (PrintedFits h last parts es) (printed_from cx (record { parts = parts; values = es }) is) (λ q. PrintedFits h last q.parts q.values)
-    printed_from_runs parts es [] = done _ (λ x. x)
-    printed_from_runs parts es (i ∷ is) = bind (printed_item_runs parts es i) (λ q. given (λ x. x.1) (printed_from_runs q.parts q.values is))
+  printed_from_runs : (parts : List PrintPart) (es : List Expression) (is : List PrintItem)
+      → Reads h last cx (PrintedFits h last parts es) (printed_from cx (record { parts = parts; values = es }) is) (λ q. PrintedFits h last q.parts q.values)
+  printed_from_runs parts es [] = done _ (λ x. x)
+  printed_from_runs parts es (i ∷ is) = bind (printed_item_runs parts es i) (λ q. given (λ x. x.1) (printed_from_runs q.parts q.values is))
 
-    pub print_runs : (is : List PrintItem) → Reads last (Unit {0}) (print cx is) (StatementFits h last cx.in_loop)
-    unfolding print
-    print_runs is = next (share_print_runs (prints_alone cx)) (bind (given (λ x. ((tt, tt), refl)) (printed_from_runs [] [] is)) (λ p.
-        done (s.Print p.parts p.values) (λ x. print_fits h last cx.in_loop p.parts p.values x.1.0 (width_of p.values ∙ sym x.1.1))))
+  pub print_runs : (is : List PrintItem) → Reads h last cx (Unit {0}) (print cx is) (StatementFits h last cx.in_loop)
+  unfolding print
+  print_runs is = next (share_print_runs (prints_alone cx)) (bind (given (λ x. ((tt, tt), refl)) (printed_from_runs [] [] is)) (λ p.
+      done (s.Print p.parts p.values) (λ x. print_fits h last cx.in_loop p.parts p.values x.1.0 (width_of p.values ∙ sym x.1.1))))
 
-    -- ---- return
+  -- ---- return
 
-    return_value_runs : (e : Expr) → Reads last (Unit {0}) (return_value cx e) (StatementFits h last cx.in_loop)
-    unfolding return_value
-    return_value_runs e = bind (fitting_runs h last cx agree cx.result e) (λ v. done (s.Return (term_or_none v)) (λ x.
-        return_fits h last cx.in_loop (term_or_none v) (term_or_none_fits h last v x.1)))
+  return_value_runs : (e : Expr) → Reads h last cx (Unit {0}) (return_value cx e) (StatementFits h last cx.in_loop)
+  unfolding return_value
+  return_value_runs e = bind (fitting_runs h last cx cx.result e) (λ v. done (s.Return (term_or_none v)) (λ x.
+      return_fits h last cx.in_loop (term_or_none v) (term_or_none_fits h last v x.1)))
 
-    return_from_void_runs : (e : Expr) → Reads last (Unit {0}) (return_from_void cx e) (StatementFits h last cx.in_loop)
-    unfolding return_from_void
-    return_from_void_runs e = next (operand_runs h last cx agree e) (next (note_rule_runs h last cx _) (done s.Empty (λ x. empty_fits h last cx.in_loop)))
+  return_from_void_runs : (e : Expr) → Reads h last cx (Unit {0}) (return_from_void cx e) (StatementFits h last cx.in_loop)
+  unfolding return_from_void
+  return_from_void_runs e = next (operand_runs h last cx e) (next (note_rule_runs h last cx _) (done s.Empty (λ x. empty_fits h last cx.in_loop)))
 
-    return_some_runs : (b : Bool) (e : Expr) → Reads last (Unit {0}) (return_some b cx e) (StatementFits h last cx.in_loop)
-    return_some_runs true e = return_from_void_runs e
-    return_some_runs false e = return_value_runs e
+  return_some_runs : (b : Bool) (e : Expr) → Reads h last cx (Unit {0}) (return_some b cx e) (StatementFits h last cx.in_loop)
+  return_some_runs true e = return_from_void_runs e
+  return_some_runs false e = return_value_runs e
 
-    return_nothing_runs : {P : Type 0} → Reads last P (return_nothing cx) (StatementFits h last cx.in_loop)
-    return_nothing_runs = next (note_if_runs (not (is_void cx.result)) _) (done (s.Return (e.Push constant.Void)) (λ x.
-        return_fits h last cx.in_loop (e.Push constant.Void) (push_fits h last constant.Void)))
+  return_nothing_runs : {P : Type 0} → Reads h last cx P (return_nothing cx) (StatementFits h last cx.in_loop)
+  return_nothing_runs = next (note_if_runs (not (is_void cx.result)) _) (done (s.Return (e.Push constant.Void)) (λ x.
+      return_fits h last cx.in_loop (e.Push constant.Void) (push_fits h last constant.Void)))
 
-    returned_runs : (o : Option Expr) → Reads last (Unit {0}) (returned cx o) (StatementFits h last cx.in_loop)
-    returned_runs None = return_nothing_runs
-    returned_runs (Some e) = return_some_runs (is_void cx.result) e
+  returned_runs : (o : Option Expr) → Reads h last cx (Unit {0}) (returned cx o) (StatementFits h last cx.in_loop)
+  returned_runs None = return_nothing_runs
+  returned_runs (Some e) = return_some_runs (is_void cx.result) e
 
-    pub give_runs : (o : Option Expr) → Reads last (Unit {0}) (give cx o) (StatementFits h last cx.in_loop)
-    unfolding give
-    give_runs o = next (note_if_runs cx.in_branch _) (returned_runs o)
+  pub give_runs : (o : Option Expr) → Reads h last cx (Unit {0}) (give cx o) (StatementFits h last cx.in_loop)
+  unfolding give
+  give_runs o = next (note_if_runs cx.in_branch _) (returned_runs o)
 
   -- ---- break and continue
 
@@ -192,6 +191,6 @@ module _ (h : Shapes) (last : State) (cx : Context) where
   inside_one false is = absurd (true≢false is)
 
   pub jump_runs : (x : Statement) → ((Clean last → InLoop cx.in_loop) → StatementFits h last cx.in_loop x) → {P : Type 0}
-      → Reads last P (jump cx x) (StatementFits h last cx.in_loop)
+      → Reads h last cx P (jump cx x) (StatementFits h last cx.in_loop)
   unfolding jump
   jump_runs x fits = bind (note_if_runs (not cx.in_loop) r.LoopOutside) (λ u. done x (λ p. fits (λ clean. inside_one cx.in_loop (p.1 clean))))

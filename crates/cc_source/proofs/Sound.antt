@@ -19,6 +19,7 @@ use Rattle.cc_scopes.specs.declared.typed.Typed.TheVariants as typed
 use Rattle.cc_scopes.specs.declared.types.Shape.{Shape}
 use Rattle.cc_scopes.specs.declared.types.Shape.TheVariants as shape
 use Rattle.cc_scopes.specs.Elab.{Elab}
+use Rattle.cc_scopes.specs.Scope.{Context}
 use Rattle.cc_source.proofs.Runs.{Runs}
 use Rattle.cc_source.proofs.Fits.{Clean, ExpressionFits}
 
@@ -76,11 +77,21 @@ Before last s = (length s.made ≤ length last.made) × (Clean last → Clean s)
 pub itself : (s : State) → Before s s
 itself s = (omega arith, λ c. c)
 
-abbrev pub Keeps : State → State → Type 0
-Keeps last s = LocalsFit last s.locals
+-- what each state keeps, where the tables are those of these shapes
+abbrev pub Keeps : Shapes → State → Context → State → Type 0
+Keeps h last cx s = LocalsFit last s.locals × Agree h cx.tables
 
-abbrev pub Reads : State → {A : Type 0} → Type 0 → Elab A → (A → Type 0) → Type 0
-Reads last P p Q = Runs (Before last) (Keeps last) P p Q
+abbrev pub Reads : Shapes → State → Context → {A : Type 0} → Type 0 → Elab A → (A → Type 0) → Type 0
+Reads h last cx P p Q = Runs (Before last) (Keeps h last cx) P p Q
+
+-- the shapes of a reading of which only the states count
+abbrev pub no_shapes : Shapes
+no_shapes = record { functions = []; classes = [] }
+
+-- with what the shapes tell
+pub knowing : (h : Shapes) (last : State) (cx : Context) {A : Type 0} {P R : Type 0} {p : Elab A} {Q : A → Type 0}
+    → (Agree h cx.tables → P → R) → Reads h last cx R p Q → Reads h last cx P p Q
+knowing h last cx f r = record { run = λ s e. let q = r.run s e in (q.0, λ x k. q.1 (f k.1 x) k) }
 
 -- ---- what an expression is
 

@@ -1,6 +1,7 @@
 -- The steps that collect, and the variables in scope.
 use Rattle.std.proofs.Common.{◌≡◌, ℕ, zero, suc, ◌+◌, ◌<◌, ◌≤◌, Bool, true, false, cond, List, [], ◌∷◌, ◌++◌, length, take, Option, Some, None, arith, length-append}
 use Rattle.std.specs.Prelude.{bytes_eq}
+use Rattle.cc_core.specs.Core.{Shapes}
 use Rattle.cc_names.specs.Table.{Name}
 use Rattle.cc_names.specs.declared.broken.Broken.{Broken}
 use Rattle.cc_names.specs.declared.broken.Broken.TheVariants.{Rule}
@@ -20,7 +21,8 @@ use Rattle.cc_source.proofs.Sound.{HasCells, FoundFits, LocalsFit, Reads}
 
 -- ---- the variables in scope
 
-pub locals_one_more : (last : State) (ls : List Local) (l : Local) → LocalsFit last ls → l.number < length last.made → HasCells l.declared.shape → LocalsFit last (ls ++ l ∷ [])
+pub locals_one_more : (last : State) (ls : List Local) (l : Local) → LocalsFit last ls → l.number < length last.made → HasCells l.declared.shape
+    → LocalsFit last (ls ++ l ∷ [])
 locals_one_more last [] l a p q = (p, q, tt)
 locals_one_more last (x ∷ ls) l a p q = (a.0, a.1, locals_one_more last ls l a.2 p q)
 
@@ -46,9 +48,9 @@ more_made n ds d le = let l : length (ds ++ d ∷ []) ≡ length ds + 1 = length
 fewer_made : (n : ℕ) (ds : List Declared) (d : Declared) → length (ds ++ d ∷ []) ≤ n → length ds ≤ n
 fewer_made n ds d le = let l : length (ds ++ d ∷ []) ≡ length ds + 1 = length-append ds (d ∷ []) in omega (arith, l, le)
 
-module _ (last : State) {P : Type 0} where
+module _ (h : Shapes) (last : State) (cx : Context) {P : Type 0} where
   -- a rule that is noted is broken in the end
-  pub note_runs : (b : Broken) → Reads last P (note b) (λ u. Clean last → ⊥)
+  pub note_runs : (b : Broken) → Reads h last cx P (note b) (λ u. Clean last → ⊥)
   note_runs b = record {
     run = λ s e. (
       (e.0, λ c. empty_before s.broken (b ∷ []) (e.1 c)),
@@ -56,44 +58,46 @@ module _ (last : State) {P : Type 0} where
     );
   }
 
-  pub share_runs : (rule : ShareRule) (line : ℕ) → Reads last P (share rule line) Anything
+  pub share_runs : (rule : ShareRule) (line : ℕ) → Reads h last cx P (share rule line) Anything
   share_runs rule line = record { run = λ s e. (e, λ x k. (k, tt)) }
 
-  pub block_runs : (line : ℕ) → Reads last P (block line) Anything
+  pub block_runs : (line : ℕ) → Reads h last cx P (block line) Anything
   block_runs line = record { run = λ s e. (e, λ x k. (k, tt)) }
 
-  pub block_if_runs : (b : Bool) (line : ℕ) → Reads last P (block_if b line) Anything
+  pub block_if_runs : (b : Bool) (line : ℕ) → Reads h last cx P (block_if b line) Anything
   block_if_runs true line = record { run = λ s e. (e, λ x k. (k, tt)) }
   block_if_runs false line = record { run = λ s e. (e, λ x k. (k, tt)) }
 
-  pub call_runs : (f : FunId) (line : ℕ) → Reads last P (call f line) Anything
+  pub call_runs : (f : FunId) (line : ℕ) → Reads h last cx P (call f line) Anything
   call_runs f line = record { run = λ s e. (e, λ x k. (k, tt)) }
 
-  pub leave_runs : (start : ℕ) → Reads last P (leave start) Anything
-  leave_runs start = record { run = λ s e. (e, λ x k. (locals_taken last start s.locals k, tt)) }
+  pub leave_runs : (start : ℕ) → Reads h last cx P (leave start) Anything
+  leave_runs start = record { run = λ s e. (e, λ x k. ((locals_taken last start s.locals k.0, k.1), tt)) }
 
-  noted_or_not : (b : Bool) (x : Broken) → Reads last P (λ s. cond b (note x s) (tt, s)) Anything
+  noted_or_not : (b : Bool) (x : Broken) → Reads h last cx P (λ s. cond b (note x s) (tt, s)) Anything
   noted_or_not true x = gives (λ u f. tt) (note_runs x)
   noted_or_not false x = done tt (λ p. tt)
 
-  pub twice_runs : (cx : Context) (name : Name) → Reads last P (twice cx name) Anything
+  pub twice_runs : (name : Name) → Reads h last cx P (twice cx name) Anything
   unfolding twice
-  twice_runs cx name = record { run = λ s e. (noted_or_not (is_here cx name s) (Rule LocalTwice cx.line)).run s e }
+  twice_runs name = record { run = λ s e. (noted_or_not (is_here cx name s) (Rule LocalTwice cx.line)).run s e }
 
-  pub bring_runs : (cx : Context) (name : Name) (k : ℕ) (d : Declared) → (P → k < length last.made) → (P → HasCells d.shape) → Reads last P (bring cx name k d) Anything
-  bring_runs cx name k d p q = record {
+  pub bring_runs : (name : Name) (k : ℕ) (d : Declared) → (P → k < length last.made) → (P → HasCells d.shape)
+      → Reads h last cx P (bring cx name k d) Anything
+  bring_runs name k d p q = record {
     run = λ s e. (
       e,
       λ x a.
-          (locals_one_more last s.locals (record { name = name; number = k; declared = d; part = cx.part }) a (p x) (q x), tt),
+          ((locals_one_more last s.locals (record { name = name; number = k; declared = d; part = cx.part }) a.0 (p x) (q x), a.1), tt),
     );
   }
 
-  pub number_runs : (d : Declared) → Reads last P (number d) (λ k. k < length last.made)
+  pub number_runs : (d : Declared) → Reads h last cx P (number d) (λ k. k < length last.made)
   number_runs d = record { run = λ s e. ((fewer_made (length last.made) s.made d e.0, e.1), λ x k. (k, more_made (length last.made) s.made d e.0)) }
 
 -- a new variable is among the function's
-pub declare_runs : (last : State) {P : Type 0} (cx : Context) (name : Name) (d : Declared) → (P → HasCells d.shape) → Reads last P (declare cx name d) (λ k. k < length last.made)
+pub declare_runs : (h : Shapes) (last : State) (cx : Context) {P : Type 0} (name : Name) (d : Declared) → (P → HasCells d.shape)
+    → Reads h last cx P (declare cx name d) (λ k. k < length last.made)
 unfolding declare
-declare_runs last cx name d p = next (twice_runs last cx name) (bind (number_runs last d) (λ k.
-    next (bring_runs last cx name k d (λ x. x.1) (λ x. p x.0)) (done k (λ x. x.1))))
+declare_runs h last cx name d p = next (twice_runs h last cx name) (bind (number_runs h last cx d) (λ k.
+    next (bring_runs h last cx name k d (λ x. x.1) (λ x. p x.0)) (done k (λ x. x.1))))

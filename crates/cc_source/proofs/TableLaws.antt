@@ -60,7 +60,7 @@ constants_agree h cs = record {
 module _ (h : Shapes) where
   field_has_cells : (cx : Context) → Agree h cx.tables → (d : Decl) → DeclaredFits (field_of cx d)
   field_has_cells cx agree d =
-      let last = (field cx d nothing_yet).1 in (((field_runs h last cx agree d {P = Unit {0}}).run nothing_yet (itself last)).1 tt tt).1
+      let last = (field cx d nothing_yet).1 in (((field_runs h last cx d {P = Unit {0}}).run nothing_yet (itself last)).1 tt (tt, agree)).1
 
   members_have_cells : (cx : Context) → Agree h cx.tables → (cells f : ℕ) (ms : List Member) (i : ℕ) (m : Entry)
       → slice_get (members_from cx cells f ms) i ≡ Some m → MemberHasCells m

@@ -25,11 +25,11 @@ use Rattle.cc_scopes.specs.Meaning.{value_in}
 use Rattle.cc_tables.specs.Tables.{outside, classes_from}
 use Rattle.cc_tree.specs.declared.declarations.Item.{Item}
 use Rattle.cc_tree.specs.declared.declarations.Item.TheVariants as item
+use Rattle.cc_source.proofs.CleanLaws.{items_clean}
+use Rattle.cc_source.proofs.Fits.{Clean}
 use Rattle.cc_shared.proofs.CellLaws.{items_shapes}
-use Rattle.cc_shared.proofs.CleanLaws.{Clean}
 use Rattle.cc_shared.proofs.ItemLaws.{constant_count}
 use Rattle.source_types.specs.Reading.{IsThere, Anything, Matches}
-use Rattle.source_types.proofs.CleanItems.{items_clean}
 use Rattle.source_types.proofs.FunctionLaws.{At}
 use Rattle.source_types.proofs.RunLaws.{cells_same}
 use Rattle.source_types.proofs.TypeTables.{EntriesKnown, types_of_class, entry_cells, filled_cells, fields_of, runs_match, sizes_match}

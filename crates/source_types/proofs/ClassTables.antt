@@ -45,7 +45,9 @@ use Rattle.cc_tree.specs.declared.declarations.Param.{Param}
 use Rattle.cc_tree.specs.declared.expressions.Expr.{Expr}
 use Rattle.cc_tree.specs.declared.statements.Decl.{Decl}
 use Rattle.cc_tree.specs.declared.statements.Stmt.{Stmt}
-use Rattle.cc_shared.proofs.CleanLaws.{Clean, typed_fits, note_kept, param_type_fits}
+use Rattle.cc_source.proofs.CleanLaws.{members_clean, sets_clean, params_in_clean, items_clean}
+use Rattle.cc_source.proofs.Fits.{Clean}
+use Rattle.cc_shared.proofs.CleanLaws.{typed_fits, note_kept, param_type_fits}
 use Rattle.cc_shared.proofs.DeclaredLaws as declared
 use Rattle.cc_shared.proofs.FunctionLaws.{parameter_value}
 use Rattle.cc_shared.proofs.KnownLaws.{param_same}
@@ -55,7 +57,7 @@ use Rattle.cc_shared.proofs.SameLaws.{typed_same}
 use Rattle.core_types.specs.Types.{Crosses, AllCross}
 use Rattle.core_types.specs.Typing.{nowhere}
 use Rattle.source_types.specs.TypesOf.{value_type, IsCellType, AllCellTypes}
-use Rattle.source_types.proofs.CleanItems.{free, clean_ends, no_program, no_tables, no_world, members_clean, sets_clean, params_in_clean, items_clean}
+use Rattle.source_types.proofs.CleanEnds.{free, clean_ends, no_program, no_tables, no_world}
 use Rattle.source_types.proofs.ExpressionLaws.{array_length_runs}
 use Rattle.source_types.proofs.FunctionLaws.{cell_type}
 use Rattle.source_types.proofs.StateLaws.{not_empty, IfThere}

@@ -18,12 +18,13 @@ use Rattle.cc_tree.specs.declared.declarations.Item.{Item}
 use Rattle.cc_tree.specs.declared.declarations.Item.TheVariants as item
 use Rattle.cc_tree.specs.declared.expressions.Expr.{Expr}
 use Rattle.cc_typing.specs.Whole.{constant}
+use Rattle.cc_source.proofs.CleanLaws.{items_clean}
+use Rattle.cc_source.proofs.Fits.{Clean}
 use Rattle.cc_shared.proofs.KnownConstants.{EachConstant, HasValue}
-use Rattle.cc_shared.proofs.CleanLaws.{Clean}
 use Rattle.cc_shared.proofs.FunctionLaws.{slice_mapped}
 use Rattle.source_types.specs.TypesOf.{target_of}
 use Rattle.source_types.specs.Reading.{IsThere, Anything, Matches, Stands}
-use Rattle.source_types.proofs.CleanItems.{free, clean_ends, no_program, no_world, items_clean}
+use Rattle.source_types.proofs.CleanEnds.{free, clean_ends, no_program, no_world}
 use Rattle.source_types.proofs.ExpressionLaws.{constant_runs}
 
 some_of : (o : Option ℤ) → IsThere {A = ℤ} Anything o → (n : ℤ) × (o ≡ Some n)

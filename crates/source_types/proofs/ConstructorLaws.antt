@@ -19,7 +19,9 @@ use Rattle.cc_scopes.specs.declared.state.Local.{Local}
 use Rattle.cc_scopes.specs.declared.state.State.{State}
 use Rattle.cc_scopes.specs.declared.types.Declared.{Declared}
 use Rattle.cc_scopes.specs.Scope.{Context}
-use Rattle.cc_shared.proofs.CleanLaws.{Clean, AllParameters}
+use Rattle.cc_source.proofs.CleanLaws.{sets_clean}
+use Rattle.cc_source.proofs.Fits.{Clean}
+use Rattle.cc_shared.proofs.CleanLaws.{AllParameters}
 use Rattle.cc_shared.proofs.FunctionLaws.{slice_mapped}
 use Rattle.cc_shared.proofs.Proper.{Layer, layer, EachOf}
 use Rattle.cc_shared.proofs.QuietLaws.{assigned_set_kept}
@@ -36,7 +38,7 @@ use Rattle.source_types.proofs.AgainLaws.{read_again}
 use Rattle.source_types.proofs.AssignmentLaws.{AssignmentFits, assignment_runs}
 use Rattle.source_types.proofs.BuiltLaws.{built_from, own_cell, own_elements}
 use Rattle.source_types.proofs.CallLaws.{Fitting}
-use Rattle.source_types.proofs.CleanItems.{free, clean_ends, other_never, sets_clean}
+use Rattle.source_types.proofs.CleanEnds.{free, clean_ends, other_never}
 use Rattle.source_types.proofs.Fits.{Values}
 use Rattle.source_types.proofs.TypeTables.{some_inside}
 
@@ -137,6 +139,8 @@ module _ (program : core.Program) (y : Types) (world : World) (home : core_names
     one_set_by (StmtKind-F.If c' first other) b s here' q = absurd (other_never cx b s q)
     one_set_by (StmtKind-F.While c' x) b s here' q = absurd (other_never cx b s q)
     one_set_by (StmtKind-F.For first c' after x) b s here' q = absurd (other_never cx b s q)
+    one_set_by StmtKind-F.Break b s here' q = absurd (other_never cx b s q)
+    one_set_by StmtKind-F.Continue b s here' q = absurd (other_never cx b s q)
     one_set_by (StmtKind-F.Par bs) b s here' q = absurd (other_never cx b s q)
     one_set_by (StmtKind-F.ParFor name start c' after x) b s here' q = absurd (other_never cx b s q)
     one_set_by (StmtKind-F.Spawn e) b s here' q = absurd (other_never cx b s q)

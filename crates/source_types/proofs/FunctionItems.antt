@@ -23,7 +23,9 @@ use Rattle.cc_scopes.specs.declared.types.Declared.{Declared}
 use Rattle.cc_scopes.specs.declared.types.Ty.{Ty}
 use Rattle.cc_scopes.specs.Meaning.{value_in}
 use Rattle.cc_scopes.specs.Scope.{Context}
-use Rattle.cc_shared.proofs.CleanLaws.{Clean, params_done}
+use Rattle.cc_source.proofs.CleanLaws.{members_clean, items_clean}
+use Rattle.cc_source.proofs.Fits.{Clean}
+use Rattle.cc_shared.proofs.CleanLaws.{params_done}
 use Rattle.cc_shared.proofs.FunctionLaws.{after_result, inner, after_params, after_body}
 use Rattle.cc_shared.proofs.ItemLaws.{before_parts, constant_count}
 use Rattle.cc_shared.proofs.KnownLaws.{params_same, result_same}
@@ -37,7 +39,7 @@ use Rattle.cc_tree.specs.declared.declarations.Member.TheVariants as member
 use Rattle.core_types.specs.Types.{Target, FunctionTypes, Types, function_types}
 use Rattle.source_types.specs.TypesOf.{value_type, target_of}
 use Rattle.source_types.specs.Reading.{IsThere, Anything, Matches, CalmCall}
-use Rattle.source_types.proofs.CleanItems.{free, clean_ends, body_ends, members_clean, items_clean}
+use Rattle.source_types.proofs.CleanEnds.{free, clean_ends, body_ends}
 use Rattle.source_types.proofs.FunctionLaws.{ReadFunction, read_function, FunctionFits, types_in, At, one_function}
 use Rattle.source_types.proofs.TypeTables.{types_by, method_types, typed_functions, with_vars}
 

@@ -35,7 +35,8 @@ use Rattle.cc_scopes.specs.Meaning.{constant_value}
 use Rattle.cc_scopes.specs.Elab.{note}
 use Rattle.cc_scopes.specs.Scope.{Context, is_here, twice, declare}
 use Rattle.cc_scopes.specs.Types.{cell_kind}
-use Rattle.cc_shared.proofs.CleanLaws.{Clean, type_clean, AllParameters, AreNumbered, ParamsDone, params_done, params_fit, typed_fits}
+use Rattle.cc_source.proofs.Fits.{Clean}
+use Rattle.cc_shared.proofs.CleanLaws.{type_clean, AllParameters, AreNumbered, ParamsDone, params_done, params_fit, typed_fits}
 use Rattle.cc_shared.proofs.DeclaredLaws as declared
 use Rattle.cc_shared.proofs.FunctionLaws.{slice_mapped, parameter_value, result_kept, result_fits, after_result, inner, after_params, after_body}
 use Rattle.cc_shared.proofs.ItemLaws.{before_parts}
@@ -50,7 +51,7 @@ use Rattle.core_types.specs.Typing.{scope_of, AreTyped}
 use Rattle.core_types.specs.Values.{World}
 use Rattle.source_types.specs.TypesOf.{value_type, target_by, target_of, IsCellType, IsResultType}
 use Rattle.source_types.specs.Reading.{IsThere, Anything, Matches, CalmCall, Grown, AllCalls, Ends, LocalsFit}
-use Rattle.source_types.proofs.CleanItems.{free, clean_ends, body_ends}
+use Rattle.source_types.proofs.CleanEnds.{free, clean_ends, body_ends}
 use Rattle.source_types.proofs.DeclarationLaws.{kind_sync, kind_is}
 use Rattle.source_types.proofs.StateLaws.{not_empty}
 use Rattle.source_types.proofs.StatementLaws.{body_is_typed}

@@ -21,12 +21,14 @@ use Rattle.cc_tree.specs.declared.declarations.Item.{Item}
 use Rattle.cc_tree.specs.declared.declarations.Item.TheVariants as item
 use Rattle.cc_tree.specs.declared.declarations.Member.{Member}
 use Rattle.cc_tree.specs.declared.declarations.Member.TheVariants as member
-use Rattle.cc_shared.proofs.CleanLaws.{Clean, AllParameters, params_done, params_fit}
+use Rattle.cc_source.proofs.CleanLaws.{members_clean, items_clean}
+use Rattle.cc_source.proofs.Fits.{Clean}
+use Rattle.cc_shared.proofs.CleanLaws.{AllParameters, params_done, params_fit}
 use Rattle.cc_shared.proofs.FunctionLaws.{parameter_value, result_fits, after_result, inner, after_body}
 use Rattle.cc_shared.proofs.KnownLaws.{each_append, params_same, result_same}
 use Rattle.cc_shared.proofs.Proper.{EachOf}
 use Rattle.source_types.specs.TypesOf.{IsCellType, IsResultType, AllCellTypes}
-use Rattle.source_types.proofs.CleanItems.{free, clean_ends, body_ends, members_clean, items_clean}
+use Rattle.source_types.proofs.CleanEnds.{free, clean_ends, body_ends}
 use Rattle.source_types.proofs.FunctionLaws.{cell_type, result_type}
 
 module _ (b : Context) (no_classes : b.tables.classes ≡ []) where

@@ -18,7 +18,7 @@ pub mod DeclaredLaws
 pub mod HeaderLaws
 pub mod AgainLaws
 pub mod StatementLaws
-pub mod CleanItems
+pub mod CleanEnds
 pub mod FunctionLaws
 pub mod TypeTables
 pub mod FunctionTables

@@ -22,13 +22,15 @@ use Rattle.cc_tree.specs.declared.declarations.Member.{Member}
 use Rattle.cc_tree.specs.declared.declarations.Member.TheVariants as member
 use Rattle.cc_tree.specs.declared.expressions.Expr.{Expr}
 use Rattle.cc_tree.specs.declared.statements.Decl.{Decl}
+use Rattle.cc_source.proofs.CleanLaws.{members_clean}
+use Rattle.cc_source.proofs.Fits.{Clean}
 use Rattle.cc_shared.proofs.ConstantLaws.{IsBare}
 use Rattle.cc_shared.proofs.SameTypes.{HasLength, slot_same}
-use Rattle.cc_shared.proofs.CleanLaws.{Clean, typed_kept}
+use Rattle.cc_shared.proofs.CleanLaws.{typed_kept}
 use Rattle.cc_shared.proofs.FunctionLaws.{slice_mapped}
 use Rattle.source_types.specs.TypesOf.{target_of}
 use Rattle.source_types.specs.Reading.{IsThere, Stands}
-use Rattle.source_types.proofs.CleanItems.{free, clean_ends, no_program, no_world, members_clean}
+use Rattle.source_types.proofs.CleanEnds.{free, clean_ends, no_program, no_world}
 use Rattle.source_types.proofs.ClassTables.{by_shape, typed_clean}
 use Rattle.source_types.proofs.ExpressionLaws.{array_length_runs}
 use Rattle.source_types.proofs.FunctionLaws.{At}

@@ -25,13 +25,15 @@ use Rattle.cc_tree.specs.declared.declarations.Member.{Member}
 use Rattle.cc_tree.specs.declared.declarations.Member.TheVariants as member
 use Rattle.cc_tree.specs.declared.declarations.Param.{Param}
 use Rattle.cc_tree.specs.declared.statements.Stmt.{Stmt}
+use Rattle.cc_source.proofs.CleanLaws.{members_clean, sets_clean, params_in_clean}
+use Rattle.cc_source.proofs.Fits.{Clean}
 use Rattle.cc_shared.proofs.Proper.{EachOf}
-use Rattle.cc_shared.proofs.CleanLaws.{Clean, AllParameters, AreNumbered, assoc, one_longer, note_kept, param_is, param_type_fits}
+use Rattle.cc_shared.proofs.CleanLaws.{AllParameters, AreNumbered, assoc, one_longer, note_kept, param_is, param_type_fits}
 use Rattle.cc_shared.proofs.FunctionLaws.{slice_mapped, parameter_value}
 use Rattle.cc_shared.proofs.KnownLaws.{param_same}
 use Rattle.source_types.specs.TypesOf.{value_type, target_of}
 use Rattle.source_types.proofs.BuiltLaws.{all_got}
-use Rattle.source_types.proofs.CleanItems.{no_program, no_world, members_clean, sets_clean, params_in_clean}
+use Rattle.source_types.proofs.CleanEnds.{no_program, no_world}
 use Rattle.source_types.proofs.ConstructorLaws.{SetFits, all_sets}
 use Rattle.source_types.proofs.FunctionLaws.{At, params_known}
 

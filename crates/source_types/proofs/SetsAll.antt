@@ -19,9 +19,10 @@ use Rattle.cc_scopes.specs.declared.tables.Class.{Class}
 use Rattle.cc_scopes.specs.declared.tables.Tables.{Tables}
 use Rattle.cc_scopes.specs.Meaning.{value_in}
 use Rattle.cc_shared.proofs.CellLaws.{items_shapes}
-use Rattle.cc_shared.proofs.CleanLaws.{Clean}
 use Rattle.cc_shared.proofs.ItemLaws.{constant_count}
 use Rattle.cc_shared.proofs.Proper.{EachOf}
+use Rattle.cc_source.proofs.CleanLaws.{items_clean}
+use Rattle.cc_source.proofs.Fits.{Clean}
 use Rattle.cc_source.proofs.RuleLaws.{empty_before, empty_behind, rules_of_class}
 use Rattle.cc_tables.specs.Tables.{outside, constructor_types, class_of, classes_from}
 use Rattle.cc_tree.specs.declared.declarations.Item.{Item}
@@ -30,7 +31,6 @@ use Rattle.core_types.specs.Programs.{AreSets}
 use Rattle.core_types.specs.Types.{Types, function_types, class_types}
 use Rattle.source_types.specs.TypesOf.{value_type}
 use Rattle.source_types.specs.Reading.{IsThere, Anything, Matches}
-use Rattle.source_types.proofs.CleanItems.{items_clean}
 use Rattle.source_types.proofs.ConstructorLaws.{SetFits}
 use Rattle.source_types.proofs.FunctionLaws.{At}
 use Rattle.source_types.proofs.SetItems.{members_sets}

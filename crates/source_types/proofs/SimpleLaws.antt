@@ -8,6 +8,7 @@ use Rattle.cc_core.specs.declared.expression.Expression.TheVariants as e
 use Rattle.cc_core.specs.declared.expression.Expression.TheOpen.{Expression-F}
 use Rattle.cc_core.specs.declared.expression.How.{How}
 use Rattle.cc_core.specs.declared.expression.PrintPart.{PrintPart}
+use Rattle.cc_core.specs.declared.statement.Statement.{Statement}
 use Rattle.cc_core.specs.declared.statement.Statement.TheVariants as s
 use Rattle.cc_core.specs.Core.{Term}
 use Rattle.cc_core.specs.Core as core
@@ -30,7 +31,7 @@ use Rattle.cc_scopes.specs.declared.types.Ty.{Ty}
 use Rattle.cc_scopes.specs.declared.types.Ty.TheVariants as ty
 use Rattle.cc_scopes.specs.Scope.{Context}
 use Rattle.cc_elaboration.specs.Simple.{term_or_none, int_value, dropped, call, spawned_by, spawned, spawn, with_number, printed_value}
-use Rattle.cc_elaboration.specs.Simple.{printed_item, printed_from, share_print, prints_alone, print, note_if, is_void, return_value, return_from_void, return_some, return_nothing, returned, give}
+use Rattle.cc_elaboration.specs.Simple.{printed_item, printed_from, share_print, prints_alone, print, note_if, is_void, return_value, return_from_void, return_some, return_nothing, returned, give, jump}
 use Rattle.source_types.specs.Reading.{IsThere, Anything}
 use Rattle.source_types.proofs.Runs.{given, always, bind, next, after, done}
 use Rattle.source_types.proofs.Forms.{no_values, more_values}
@@ -248,3 +249,10 @@ module _ (program : core.Program) (y : Types) (world : World) (home : names.Name
     pub give_runs : (o : Option Expr) → Reads F grown ds ls (Unit {0}) (give cx o) (StmtFits program y world home here)
     unfolding give
     give_runs o = having F grown ds ls (bind (note_if_runs F grown ds ls cx cx.in_branch _) (λ u. given (λ x. (x.1, x.0.1)) (returned_runs o)))
+
+    -- ---- break and continue
+
+    pub jump_runs : (x : Statement) → StmtFits program y world home here x → {P : Type 0}
+        → Reads F grown ds ls P (jump cx x) (StmtFits program y world home here)
+    unfolding jump
+    jump_runs x f = next (note_if_runs F grown ds ls cx (not cx.in_loop) _) (done x (λ p. f))

@@ -28,21 +28,21 @@ use Rattle.cc_scopes.specs.Scope.{Context}
 use Rattle.cc_scopes.specs.Typed.{note_rule}
 use Rattle.cc_elaboration.specs.declared.assignments.Assignment.{Assignment}
 use Rattle.cc_elaboration.specs.Declarations.{made, declaration}
-use Rattle.cc_elaboration.specs.Simple.{no_value, int_value}
-use Rattle.cc_elaboration.specs.Statements.{Layer, inside, branch, at_line, plain_int, assigned_value, names, step_value, condition}
+use Rattle.cc_elaboration.specs.Simple.{no_value, int_value, jump}
+use Rattle.cc_elaboration.specs.Statements.{Layer, inside, branch, repeating, between, at_line, plain_int, assigned_value, names, step_value, condition}
 use Rattle.cc_elaboration.specs.Statements.{statements_from, statements, block_of, open_block, body_by, body, if_only, both, if_else, choice, repeated, step, turn, counted, headed, loop_of}
 use Rattle.cc_elaboration.specs.Statements.{part, parts_from, parts, par, no_step, step_if, header_step_by, header_step, header_rest, header, copied, each, iterated, parfor}
 use Rattle.cc_elaboration.specs.Statements.{kind, kind_of, node, statement_to, statement, function_body}
 use Rattle.source_types.specs.Reading.{IsThere}
 use Rattle.source_types.proofs.Forms.{int_literal}
-use Rattle.source_types.proofs.StmtForms.{StmtFits, StmtsFit, one_more, empty_fits, at_line_fits, if_fits, if_else_fits, while_fits, for_fits, par_fits, parfor_fits, block_fits}
+use Rattle.source_types.proofs.StmtForms.{StmtFits, StmtsFit, one_more, empty_fits, at_line_fits, if_fits, if_else_fits, while_fits, for_fits, break_fits, continue_fits, par_fits, parfor_fits, block_fits}
 use Rattle.source_types.specs.TypesOf.{value_type, target_of, IsResultType}
 use Rattle.source_types.specs.Reading.{Grown, Stands, LocalsFit, Ends, IsInside}
 use Rattle.source_types.proofs.Fits.{Reads, Values}
 use Rattle.source_types.proofs.StateLaws.{not_empty}
 use Rattle.source_types.proofs.AgainLaws.{read_again}
 use Rattle.source_types.proofs.AssignmentLaws.{assign_runs}
-use Rattle.source_types.proofs.SimpleLaws.{int_value_runs, call_statement_runs, spawn_runs, print_runs, give_runs}
+use Rattle.source_types.proofs.SimpleLaws.{int_value_runs, call_statement_runs, spawn_runs, print_runs, give_runs, jump_runs}
 use Rattle.source_types.proofs.DeclaredLaws.{variable_runs}
 use Rattle.source_types.proofs.DeclarationLaws.{Makes, started_runs, bring_g, declare_g}
 use Rattle.source_types.proofs.HeaderLaws.{own_assignment_runs}
@@ -91,6 +91,13 @@ module _ (program : core.Program) (y : Types) (world : World) (home : core_names
     returns = i.returns;
   }
 
+  loop_inside : (here : Scope) (cx : Context) (repeats : Bool) → Inside here cx → Inside here (record cx { in_loop = repeats })
+  loop_inside here cx repeats i = record {
+    stands = λ f. let x = i.stands f in record { matches = x.matches; this = x.this; constants = x.constants; functions = x.functions; waits = x.waits; calm = x.calm };
+    vars = i.vars;
+    returns = i.returns;
+  }
+
   value_g : (here : Scope) (cx : Context) (ls : List Local) → Inside here cx → (c : Expr)
       → Goes grown (Has ls) (int_value cx c) (λ x l. Has ls l × Values program y world home here x AnInt)
   value_g here cx ls i c = expr_g ls (λ l. int_value_runs program y world home here F grown grown.made l cx i.stands i.vars c)
@@ -99,6 +106,11 @@ module _ (program : core.Program) (y : Types) (world : World) (home : core_names
       → Goes grown (Has ls) (condition cx o) (λ x l. Has ls l × Values program y world home here x AnInt)
   condition_g here cx ls i None = done_g _ (λ l p. (p, int_literal program y world home here (pos 1)))
   condition_g here cx ls i (Some c) = value_g here cx ls i c
+
+  jump_g : (here : Scope) (cx : Context) (ls : List Local) → Inside here cx → (x : Statement) → StmtFits program y world home here x
+      → Goes grown (Has ls) (jump cx x) (Leaves here ls)
+  jump_g here cx ls i x f = expr_g ls (λ l.
+      jump_runs program y world home here F grown grown.made l cx i.stands i.vars (λ f. (i.stands f).waits) i.returns x f)
 
   declaration_g : (here : Scope) (cx : Context) (ls : List Local) → Inside here cx → (d : Decl) → Goes grown (Has ls) (declaration cx d) (Leaves here ls)
   unfolding declaration
@@ -153,6 +165,8 @@ module _ (program : core.Program) (y : Types) (world : World) (home : core_names
     body_by_g here cx ls i (StmtKind-F.If c first other) b = subs here cx ls i b
     body_by_g here cx ls i (StmtKind-F.While c x) b = subs here cx ls i b
     body_by_g here cx ls i (StmtKind-F.For first c after x) b = subs here cx ls i b
+    body_by_g here cx ls i StmtKind-F.Break b = subs here cx ls i b
+    body_by_g here cx ls i StmtKind-F.Continue b = subs here cx ls i b
     body_by_g here cx ls i (StmtKind-F.Par bs) b = subs here cx ls i b
     body_by_g here cx ls i (StmtKind-F.ParFor name start c after x) b = subs here cx ls i b
     body_by_g here cx ls i (StmtKind-F.Spawn e) b = subs here cx ls i b
@@ -188,7 +202,7 @@ module _ (program : core.Program) (y : Types) (world : World) (home : core_names
 
     repeated_g : (here : Scope) (cx : Context) (ls : List Local) → Inside here cx → (c : Expr) (b : Stmt) → Goes grown (Has ls) (repeated stmt cx c b) (Leaves here ls)
     unfolding repeated
-    repeated_g here cx ls i c b = bind_g (value_g here cx ls i c) (λ t. bind_g (frame_g (subs here cx ls i b)) (λ x.
+    repeated_g here cx ls i c b = bind_g (value_g here cx ls i c) (λ t. bind_g (frame_g (subs here (repeating cx) ls (loop_inside here cx true i) b)) (λ x.
         done_g (s.While t x) (λ l q. (q.0.0, while_fits program y world home here t x q.1 q.0.1))))
 
     step_g : (here : Scope) (cx : Context) (ls : List Local) → Inside here cx → (o : Option Stmt) → Goes grown (Has ls) (step stmt cx o) (Leaves here ls)
@@ -197,7 +211,8 @@ module _ (program : core.Program) (y : Types) (world : World) (home : core_names
 
     turn_g : (here : Scope) (cx : Context) (ls : List Local) → Inside here cx → (o : Option Stmt) (b : Stmt) → Goes grown (Has ls) (turn stmt cx o b) (BothFit here ls)
     unfolding turn
-    turn_g here cx ls i o b = bind_g (step_g here cx ls i o) (λ x. bind_g (frame_g (body_g here cx ls i b)) (λ z. done_g (x, z) (λ l q. (q.0.0, (q.1, q.0.1)))))
+    turn_g here cx ls i o b = bind_g (step_g here (between cx) ls (loop_inside here cx false i) o) (λ x.
+        bind_g (frame_g (body_g here (repeating cx) ls (loop_inside here cx true i) b)) (λ z. done_g (x, z) (λ l q. (q.0.0, (q.1, q.0.1)))))
 
     counted_g : (here : Scope) (cx : Context) (ls : List Local) → Inside here cx → (c : Option Expr) (o : Option Stmt) (b : Stmt)
         → Goes grown (Has ls) (counted stmt cx c o b) (Leaves here ls)
@@ -297,6 +312,8 @@ module _ (program : core.Program) (y : Types) (world : World) (home : core_names
     header_step_by_g here cx ls name k i (StmtKind-F.If c first other) b = no_step_g here cx (Newest cx name k ls) i b (here_has (Newest cx name k ls))
     header_step_by_g here cx ls name k i (StmtKind-F.While c x) b = no_step_g here cx (Newest cx name k ls) i b (here_has (Newest cx name k ls))
     header_step_by_g here cx ls name k i (StmtKind-F.For first c after x) b = no_step_g here cx (Newest cx name k ls) i b (here_has (Newest cx name k ls))
+    header_step_by_g here cx ls name k i StmtKind-F.Break b = no_step_g here cx (Newest cx name k ls) i b (here_has (Newest cx name k ls))
+    header_step_by_g here cx ls name k i StmtKind-F.Continue b = no_step_g here cx (Newest cx name k ls) i b (here_has (Newest cx name k ls))
     header_step_by_g here cx ls name k i (StmtKind-F.Par bs) b = no_step_g here cx (Newest cx name k ls) i b (here_has (Newest cx name k ls))
     header_step_by_g here cx ls name k i (StmtKind-F.ParFor text start c after x) b = no_step_g here cx (Newest cx name k ls) i b (here_has (Newest cx name k ls))
     header_step_by_g here cx ls name k i (StmtKind-F.Spawn e) b = no_step_g here cx (Newest cx name k ls) i b (here_has (Newest cx name k ls))
@@ -374,6 +391,8 @@ module _ (program : core.Program) (y : Types) (world : World) (home : core_names
     kind_g here cx ls i (StmtKind-F.If c first other) = choice_g here cx ls i c first other
     kind_g here cx ls i (StmtKind-F.While c b) = repeated_g here cx ls i c b
     kind_g here cx ls i (StmtKind-F.For first c after b) = loop_of_g here cx ls i first c after b
+    kind_g here cx ls i StmtKind-F.Break = jump_g here cx ls i s.Break (break_fits program y world home here)
+    kind_g here cx ls i StmtKind-F.Continue = jump_g here cx ls i s.Continue (continue_fits program y world home here)
     kind_g here cx ls i (StmtKind-F.Par bs) = par_g here cx ls i bs
     kind_g here cx ls i (StmtKind-F.ParFor name start c after b) = parfor_g here cx ls i name start c after b
     kind_g here cx ls i (StmtKind-F.Spawn e) =

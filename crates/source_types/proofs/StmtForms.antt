@@ -16,7 +16,7 @@ use Rattle.cc_core.specs.declared.statement.Statement.{Statement}
 use Rattle.cc_core.specs.declared.statement.Statement.TheVariants as s
 use Rattle.cc_core.specs.View.{how_of, part_of, stmt_of, stmts_of}
 use Rattle.cc_core.proofs.ViewLaws.{empty_is, at_line_is, make_is, set_is, build_is, assign_is, drop_is, print_is, if_is, if_else_is}
-use Rattle.cc_core.proofs.ViewLaws.{while_is, for_is, par_is, parfor_is, spawn_is, return_is, block_is}
+use Rattle.cc_core.proofs.ViewLaws.{while_is, for_is, break_is, continue_is, par_is, parfor_is, spawn_is, return_is, block_is}
 use Rattle.source_types.proofs.Fits.{Values, AllValues}
 use Rattle.source_types.proofs.CallLaws.{Fitting}
 
@@ -69,6 +69,12 @@ module _ (program : core.Program) (y : Types) (world : World) (home : names.Name
 
   pub for_fits : (c : Expression) (step b : Statement) → Values program y world home here c AnInt → StmtFits step → StmtFits b → StmtFits (s.For c step b)
   for_fits c step b f h i = stmt _ _ (for_is c step b) (f, h, i)
+
+  pub break_fits : StmtFits s.Break
+  break_fits = stmt _ _ break_is tt
+
+  pub continue_fits : StmtFits s.Continue
+  continue_fits = stmt _ _ continue_is tt
 
   pub spawn_fits : (h : How) (f : ℕ) (es : List Expression) (us : List ValueType) → IsCall (function_types y f) (how_of h) us
       → AllValues program y world home here es us → here.waits ≡ true → StmtFits (s.Spawn h f es)

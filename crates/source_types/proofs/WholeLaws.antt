@@ -24,12 +24,12 @@ use Rattle.cc_scopes.specs.declared.tables.Tables.{Tables}
 use Rattle.cc_scopes.specs.Elab.{nothing_yet}
 use Rattle.cc_scopes.specs.Meaning.{value_in}
 use Rattle.cc_scopes.specs.Scope.{Context}
-use Rattle.cc_shared.proofs.CleanLaws.{Clean}
 use Rattle.cc_shared.proofs.FunctionLaws.{slice_mapped}
 use Rattle.cc_shared.proofs.ItemLaws.{constant_count}
 use Rattle.cc_shared.proofs.KnownConstants.{AreKnown, constants_known}
 use Rattle.cc_shared.proofs.KnownLaws.{each_got}
 use Rattle.cc_shared.proofs.Proper.{EachOf}
+use Rattle.cc_source.proofs.Fits.{Clean}
 use Rattle.cc_source.proofs.RuleLaws.{empty_before, empty_behind, rules_of_class, rules_of_file}
 use Rattle.cc_tables.specs.Tables as tables
 use Rattle.cc_tables.specs.Tables.{constants_alone, outside, width, field_of, members_from, class_of, classes_from, functions_of, constants_of, constants_from, tables_of}
