@@ -326,15 +326,20 @@ pub(crate) fn give(
     returned(alloc, scope, state, e)
 }
 
-/// A `break` or a `continue`.
+/// A `break`.
 #[tactic(auto, unfolding(crate::specs::Simple::jump))]
-pub(crate) fn jump(
-    scope: &Scope<'_>,
-    state: &mut State,
-    jump: Statement,
-) -> Result<Statement, AllocError>
-    ensures { Gives (spec.jump (context scope.now) jump state.old) result state.new }
+pub(crate) fn exit_loop(scope: &Scope<'_>, state: &mut State) -> Result<Statement, AllocError>
+    ensures { Gives (spec.jump (context scope.now) Statement.Break state.old) result state.new }
 {
     note_if(scope, state, !scope.in_loop, StaticRule::LoopOutside)?;
-    Ok(jump)
+    Ok(Statement::Break)
+}
+
+/// A `continue`.
+#[tactic(auto, unfolding(crate::specs::Simple::jump))]
+pub(crate) fn next_turn(scope: &Scope<'_>, state: &mut State) -> Result<Statement, AllocError>
+    ensures { Gives (spec.jump (context scope.now) Statement.Continue state.old) result state.new }
+{
+    note_if(scope, state, !scope.in_loop, StaticRule::LoopOutside)?;
+    Ok(Statement::Continue)
 }

@@ -7,7 +7,7 @@ ghost use Rattle.cc_elaboration.specs.Statements.{statement_to};
 
 use crate::assignments::assign;
 use crate::declarations::declaration;
-use crate::simple::{call, give, jump, print, spawn};
+use crate::simple::{call, exit_loop, give, next_turn, print, spawn};
 use cc_core::Statement;
 use cc_names::StaticRule;
 use cc_scopes::{Scope, State};
@@ -173,8 +173,8 @@ impl<
                 step,
                 body,
             } => self.loop_of(scope, state, start.as_slice(), test, step, body.get()),
-            StmtKind::Break => jump(scope, state, Statement::Break),
-            StmtKind::Continue => jump(scope, state, Statement::Continue),
+            StmtKind::Break => exit_loop(scope, state),
+            StmtKind::Continue => next_turn(scope, state),
             StmtKind::Par(all) => self.par(scope, state, all.as_slice()),
             StmtKind::ParFor {
                 name,
