@@ -4,11 +4,10 @@ use Rattle.std.specs.List.{AllByRecursion}
 use Rattle.std.specs.Option.{option_and_then}
 use Rattle.std.specs.FinMap as fin
 use Rattle.std.proofs.lemmas.Option.{none-some, same_Some}
-use Rattle.cc_ops.specs.Values.{Value, Void, Int, Null, Ptr}
-use Rattle.cc_ops.specs.Machine.{Address}
+use Rattle.cc_ops.specs.Values.{Ptr}
 use Rattle.cc_ops.specs.declared.number.ThreadNo.{ThreadNo}
 use Rattle.cc_ops.specs.Shelves.{home_in}
-use Rattle.cc_core.specs.Config.{Config, State}
+use Rattle.cc_core.specs.Config.{Config}
 use Rattle.cc_core.specs.Core.{Program}
 use Rattle.cc_core.specs.Numbers.{Numbers, Post, Get, Put, Call, Cast, Make, posts}
 use Rattle.code_names.specs.Same.{Pairwise}
@@ -18,14 +17,14 @@ use Rattle.effect_journal.specs.declared.entry.Entry.TheVariants as entry
 use Rattle.rsr_message.specs.declared.requests.Request.{Request}
 use Rattle.rsr_message.specs.declared.requests.Body.{Body}
 use Rattle.rsr_message.specs.declared.requests.Body.TheVariants as body
-use Rattle.cc_walk.specs.Posted.{state_at, Says, IsFrom, IsPosted}
+use Rattle.cc_walk.specs.Posted.{Says, IsFrom, IsPosted}
 use Rattle.cc_explains.specs.Places.{Place, Step, behind, Lead}
-use Rattle.cc_explains.specs.Moves.{posted_at, asker, IsNextRequest, IsMake, IsServedAt}
-use Rattle.cc_explains.specs.Explains.{IsOwnStep, IsRequest, IsServing, Names, IsRead, AreRead}
+use Rattle.cc_explains.specs.Moves.{posted_at, asker, IsMake, IsServedAt}
+use Rattle.cc_explains.specs.Explains.{IsOwnStep, IsServing, IsRead, AreRead}
 use Rattle.law_mesh.specs.Moves as mesh
-use Rattle.law_mesh.specs.Queues.{Message, Asks, Answers, target}
+use Rattle.law_mesh.specs.Queues.{Asks, target}
 use Rattle.law_mesh.specs.Source.{IsStep, Leads}
-use Rattle.law_processors.specs.Alone.{Label, OwnStep, ServedStep}
+use Rattle.law_processors.specs.Alone.{Label, OwnStep}
 use Rattle.law_processors.specs.Follow.{step_of, IsPlaced}
 use Rattle.law_rounds.specs.Turn.{Note, Ran, Served, Made, labels_in, labelled}
 use Rattle.law_journals.specs.Entries.{AreBytes, IsEntryOf}

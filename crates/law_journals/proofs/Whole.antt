@@ -1,26 +1,22 @@
 -- A run by rounds is what explains its journal.
-use Rattle.std.proofs.Common.{◌≡◌, ℕ, ℤ, suc, ◌<◌, ◌≤◌, ◌+◌, List, [], ◌∷◌, ◌++◌, length, map, Option, Some, None, refl, sym, ap, ◌∙◌, subst, arith}
+use Rattle.std.proofs.Common.{◌≡◌, ℕ, ℤ, ◌<◌, List, length, Option, Some, None, refl, sym, ap, ◌∙◌, subst, arith}
 use Rattle.global_ptr.specs.declared.ends.Standing.{Standing}
 use Rattle.global_ptr.specs.declared.ends.Standing.TheVariants.{Done, Blocked, Fault, Limit}
 use Rattle.cc_core.specs.Config.{Config}
 use Rattle.cc_core.specs.Core.{Program}
-use Rattle.cc_core.specs.Names.{Name}
 use Rattle.cc_core.specs.Source.{IsProgram}
-use Rattle.cc_core.specs.Numbers.{Numbers, first_numbers}
 use Rattle.cc_core.specs.Steps as core
 use Rattle.cc_ops.specs.declared.number.ThreadNo.{ThreadNo}
-use Rattle.numbered_runs.specs.Stands.{IsThread}
 use Rattle.effect_journal.specs.declared.entry.Entry.{Entry}
 use Rattle.effect_journal.specs.declared.entry.FaultBy.{FaultBy}
-use Rattle.cc_explains.specs.Places.{Place, Step, beginning}
-use Rattle.cc_explains.specs.Explains.{limit_taken, IsBy, IsEnd, Explains, IsReadTo}
+use Rattle.cc_explains.specs.Places.{Place, beginning}
+use Rattle.cc_explains.specs.Explains.{limit_taken, IsBy, IsEnd, Explains}
 use Rattle.cc_explains.specs.Moves.{IsAtFault}
 use Rattle.cc_explains.proofs.Reading.{read_explained, explained_once, one_standing, lead_made}
 use Rattle.law_processors.specs.Processors.{Processors}
 use Rattle.law_processors.specs.Machine.{line_of}
-use Rattle.law_processors.specs.Alone.{Label}
 use Rattle.law_rounds.specs.Turn.{Note, labelled, noted}
-use Rattle.law_rounds.specs.Round.{RoundEnd, Unfinished, Rest, Faulted, RunIs, RunFollows, FaultsBy, RestsWith, WithResult, WithLiving}
+use Rattle.law_rounds.specs.Round.{RoundEnd, Faulted, RunIs, RunFollows, FaultsBy, RestsWith, WithResult, WithLiving}
 use Rattle.law_rounds.specs.Round.{StandsWith, StandsAtRest, StandsAtFault, StandsDrained, StandsAtLimit}
 use Rattle.law_rounds.proofs.Limits.{run_follows}
 use Rattle.law_journals.specs.Entries.{IsNamed, IsJournalOf}

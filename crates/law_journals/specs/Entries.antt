@@ -1,6 +1,5 @@
 -- The journal of a run by rounds: an entry for each note of its steps, and its end.
 use Rattle.std.specs.Prelude.{◌≡◌, ℕ, List, [], ◌∷◌, ◌++◌, Option, Some, None}
-use Rattle.global_ptr.specs.declared.ends.FaultKind.{FaultKind}
 use Rattle.global_ptr.specs.declared.ends.Standing.{Standing}
 use Rattle.cc_core.specs.Numbers.{Post}
 use Rattle.code_names.specs.Same.{Pairwise}
@@ -11,7 +10,7 @@ use Rattle.rsr_message.specs.declared.requests.Request.{Request}
 use Rattle.rsr_message.specs.Requests.{Spells, version_2}
 use Rattle.cc_ops.specs.declared.number.ThreadNo.{ThreadNo}
 use Rattle.cc_walk.specs.Posted.{IsFrom}
-use Rattle.law_mesh.specs.Queues.{Asks, Answers}
+use Rattle.law_mesh.specs.Queues.{Asks}
 use Rattle.law_rounds.specs.Turn.{Note, Ran, Served, Made}
 use Rattle.law_rounds.specs.Round.{RoundEnd, Unfinished, Rest, Faulted}
 
