@@ -1,5 +1,5 @@
 -- A move of the thread in the hand is its own step, or silent; and it stays in the hand or leaves it.
-use Rattle.std.proofs.Common.{◌≡◌, ◌⊎◌, inl, inr, ℕ, zero, suc, List, [], ◌∷◌, length, map, Bool, true, false, Option, Some, None, refl, sym, ◌∙◌, subst}
+use Rattle.std.proofs.Common.{◌≡◌, ◌⊎◌, inl, inr, ℕ, zero, suc, List, [], length, map, Bool, true, false, Option, Some, None, refl, sym, ◌∙◌, subst}
 use Rattle.std.specs.Prelude.{slice_get, if◌then◌else◌}
 use Rattle.global_ptr.specs.declared.ends.FaultKind.TheVariants.{NullPointer}
 use Rattle.cc_ops.specs.Values.{Value, Void, Int, Null, Ptr}
@@ -13,8 +13,8 @@ use Rattle.cc_code.specs.Code.{Code, Then, Move, Silent, Does, Ends, Stuck, move
 use Rattle.numbered_runs.specs.Posts.{posted}
 use Rattle.law_processors.specs.Living.{one_lives, joins_of}
 use Rattle.law_mesh.specs.Spots.{Fiber, verdict}
-use Rattle.law_mesh.specs.Queues.{Message, Asks, holds_none}
-use Rattle.law_processors.specs.Processors.{Waiter, Own, Stage, Goes, Joins, Asking, Has, Entry, Lives, Ended, Locked, Processor}
+use Rattle.law_mesh.specs.Queues.{Asks, holds_none}
+use Rattle.law_processors.specs.Processors.{Own, Goes, Joins, Asking, Has, Entry, Lives, Ended, Locked, Processor}
 use Rattle.law_processors.specs.Alone.{Label, OwnStep, Did, Went, Failed, be_ready, put_entry, put_hand, send, alone_at, seen_entry, seen, goes_into, is_taken}
 use Rattle.law_processors.specs.Alone.{wait_for_lock, enters_later, joins_later, waits, rejoins, rejoined, tell, ended, effect_here, stepped_here, may_step, decided}
 use Rattle.law_processors.specs.Alone.{asks_itself, asks_null, asks_here, asks_by, moves_by, entry_moves, hand_moves, moved}

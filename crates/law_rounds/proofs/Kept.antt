@@ -1,5 +1,5 @@
 -- What the pieces of a step leave as it is.
-use Rattle.std.proofs.Common.{◌≡◌, ℕ, zero, suc, List, [], ◌∷◌, Bool, true, false, Option, Some, None, refl, ◌∙◌}
+use Rattle.std.proofs.Common.{◌≡◌, ℕ, List, [], ◌∷◌, Bool, true, false, Option, Some, None, refl, ◌∙◌}
 use Rattle.cc_ops.specs.Values.{Value, Void, Int, Null, Ptr}
 use Rattle.cc_ops.specs.Machine.{Address, Values}
 use Rattle.cc_ops.specs.declared.number.ThreadNo.{ThreadNo}
@@ -8,7 +8,7 @@ use Rattle.cc_core.specs.Asks.{Ask, Answer, Leaves}
 use Rattle.cc_code.specs.Code.{Code, Thread, Then}
 use Rattle.law_mesh.specs.Local.{place_after, new_here}
 use Rattle.law_mesh.specs.Spots.{Fiber}
-use Rattle.law_mesh.specs.Queues.{Message, holds}
+use Rattle.law_mesh.specs.Queues.{holds}
 use Rattle.law_processors.specs.Processors.{Goes, Lives, Locked, Processor}
 use Rattle.law_processors.specs.Alone.{Did, Went, Failed, put_entry, put_shelf, wake, wake_at, wake_written, make_thread, make_threads, goes_into, take_lock, put_lock, held_by}
 use Rattle.law_processors.specs.Alone.{hand_on, leave_lock, leave_object, leave_innermost, after_leaving, here, effect_here, on_here, stepped_here}

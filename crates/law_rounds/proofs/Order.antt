@@ -8,19 +8,18 @@ use Rattle.cc_ops.specs.Values.{Value, Void, Int, Null, Ptr}
 use Rattle.cc_ops.specs.Machine.{Address, Values}
 use Rattle.cc_ops.specs.declared.number.ThreadNo.{ThreadNo}
 use Rattle.cc_ops.specs.Shelves.{changed}
-use Rattle.cc_core.specs.Core.{Shapes}
 use Rattle.cc_core.specs.Asks.{Ask, Answer, Reads, Enters, Leaves}
 use Rattle.cc_core.specs.Asks as asks
 use Rattle.cc_core.specs.Numbers.{Post, Get, Put, Call, Cast, Make}
 use Rattle.cc_core.specs.Needs.{Verdict, Go, Hold, Bad}
-use Rattle.cc_code.specs.Code.{Code, Thread, Then, Move, Silent, Does, Ends, Stuck, move}
+use Rattle.cc_code.specs.Code.{Code, Then, Move, Silent, Does, Ends, Stuck, move}
 use Rattle.numbered_runs.specs.Posts.{posted}
-use Rattle.law_mesh.specs.Local.{write_on, place_after, new_here}
+use Rattle.law_mesh.specs.Local.{write_on}
 use Rattle.law_processors.specs.Living.{one_lives, joins_of}
 use Rattle.law_mesh.specs.Spots.{Fiber, verdict}
-use Rattle.law_mesh.specs.Queues.{Message, Asks, holds, holds_none}
+use Rattle.law_mesh.specs.Queues.{Message, Asks, holds_none}
 use Rattle.law_processors.specs.Processors.{Waiter, Own, Asked, Goes, Joins, Asking, Has, Entry, Lives, Ended, Locked, Processor, Processors, with_processor, printing}
-use Rattle.law_processors.specs.Alone.{OwnStep, Did, Went, Failed, be_ready, served, put_entry, put_hand, put_shelf, send, wake_at, wake_written, make_thread, make_threads, alone_at, seen_entry, seen, goes_into, is_taken, take_lock, hand_on, leave_lock, leave_object, leave_innermost, after_leaving, wait_for_lock, enters_later, joins_later, waits, rejoins, rejoined, tell, ended, here, effect_here, on_here, stepped_here, may_step, decided, asks_itself, asks_null, asks_here, asks_by, moves_by, entry_moves, hand_moves, moved, answer, park_get, served_so, serves, nobody, ask_of}
+use Rattle.law_processors.specs.Alone.{OwnStep, Did, Went, Failed, be_ready, served, put_entry, put_hand, put_shelf, send, alone_at, seen_entry, seen, goes_into, is_taken, wait_for_lock, enters_later, joins_later, waits, rejoins, rejoined, tell, ended, effect_here, stepped_here, may_step, decided, asks_itself, asks_null, asks_here, asks_by, moves_by, entry_moves, hand_moves, moved, answer, park_get, served_so, serves, nobody, ask_of}
 use Rattle.law_processors.specs.Machine.{without_ready, Run}
 use Rattle.law_rounds.specs.Turn.{Note, begin, TurnIs, TurnRuns, EndsSo, TurnEnd, Quota, Idle, Fault, Phase, Serving, Picking, Running, Leaving, Closed, Turning, Pick, pick, at_phase, end_of, closes}
 use Rattle.law_rounds.specs.Turn.{after_serving, serves_on, takes, with_state, picks, stays, after_move, runs_on, ends_soon, ended_or_not, after_end, put_back, leaves, tick_in, tick, ticks}

@@ -15,7 +15,7 @@ use Rattle.law_mesh.specs.Local.{write_on}
 use Rattle.law_mesh.specs.Spots.{verdict}
 use Rattle.law_mesh.specs.Queues.{Message, Asks, Answers}
 use Rattle.law_processors.specs.Processors.{Waiter, Own, Asked, Goes, Joins, Asking, Has, Entry, Lives, Ended, Processor, Processors, with_processor, printing}
-use Rattle.law_processors.specs.Alone.{Did, Went, Failed, moved, served, serves, served_so, serves_inbox, told, nobody, ask_of, seen, answer, park_get, wake_at, put_shelf}
+use Rattle.law_processors.specs.Alone.{Did, Went, Failed, moved, served, serves, served_so, serves_inbox, told, nobody, ask_of, seen, answer, park_get, put_shelf}
 use Rattle.law_processors.specs.Machine.{Moves, TakesUp, PutsBack, MovesOn, ServesFirst, ServesWoken, Faults, MovesBadly, ServesBadly, WakesBadly, Run, Stays, in_hand, at_back, without_ready, one_or_none}
 use Rattle.law_processors.specs.Machine as machine
 use Rattle.law_rounds.specs.Turn.{Note, Served, Quota, Idle, Fault, Phase, Serving, Picking, Running, Leaving, Closed, Turning, Pick, pick, at_phase, ran, end_of, went}
