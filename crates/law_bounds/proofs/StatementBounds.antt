@@ -15,7 +15,8 @@ use Rattle.cc_tree.specs.declared.statements.Stmt.{Stmt, out-Stmt}
 use Rattle.cc_tree.specs.declared.statements.StmtKind.TheOpen.{StmtKind-F}
 use Rattle.cc_elaboration.specs.Simple.{no_value, int_value}
 use Rattle.cc_elaboration.specs.Statements as spec
-use Rattle.cc_elaboration.specs.Statements.{inside, branch, repeating, between, at_line, plain_int, names, condition, statements_from, statements, block_of, open_block, body_by, body}
+use Rattle.cc_elaboration.specs.Statements.{inside, branch, repeating, between, at_line, plain_int, names, condition}
+use Rattle.cc_elaboration.specs.Statements.{statements_from, statements, block_of, open_block, body_by, body}
 use Rattle.cc_elaboration.specs.Statements.{if_only, both, if_else, choice, repeated, step, turn, counted, headed, loop_of, part, parts_from, parts, par, no_step, step_if}
 use Rattle.cc_elaboration.specs.Statements.{header_step_by, header_step, header_rest, header, copied, each, iterated, parfor, kind_of, node, statement_to}
 use Rattle.law_depth.specs.Depth.{EachOf, IfSome, StatementLayer, statement_layer, StatementParts, StatementNestsTo}

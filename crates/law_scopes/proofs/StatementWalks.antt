@@ -21,13 +21,15 @@ use Rattle.cc_declared.specs.declared.role.Role.TheVariants as role
 use Rattle.cc_elaboration.specs.Declarations.{made, declaration}
 use Rattle.cc_elaboration.specs.Statements as spec
 use Rattle.cc_elaboration.specs.Simple.{no_value, int_value}
-use Rattle.cc_elaboration.specs.Statements.{inside, branch, repeating, between, at_line, plain_int, names, assigned_value, step_value, condition, statements_from, statements, block_of, open_block, body_by, body}
+use Rattle.cc_elaboration.specs.Statements.{inside, branch, repeating, between, at_line, plain_int, names, assigned_value, step_value, condition}
+use Rattle.cc_elaboration.specs.Statements.{statements_from, statements, block_of, open_block, body_by, body}
 use Rattle.cc_elaboration.specs.Statements.{if_only, both, if_else, choice, repeated, step, turn, counted, headed, loop_of, part, parts_from, parts, par, no_step, step_if}
 use Rattle.cc_elaboration.specs.Statements.{header_step_by, header_step, header_rest, header, copied, each, iterated, parfor, kind_of, node, statement_to, function_body}
 use Rattle.law_scopes.specs.Uses.{names_to}
 use Rattle.law_scopes.specs.Text.{Text, Declares, Copies, declarations, in_expr, in_some, in_all, in_start, declared, in_items, Layer, layer, Matches}
 use Rattle.law_scopes.specs.Text.{in_each, in_maybe, in_body_by, in_body, in_step_if, in_step_by, in_step, in_counter, in_kind, marks_to}
-use Rattle.law_scopes.proofs.LeavesLaws.{Leaves, bind_l, next_l, done_l, block_l, note_l, slot_l, assignment_l, assign_l, started_l, int_value_l, call_l, spawn_l, print_l, give_l, jump_l}
+use Rattle.law_scopes.proofs.LeavesLaws.{Leaves, bind_l, next_l, done_l, block_l, note_l, slot_l, assignment_l, assign_l, started_l}
+use Rattle.law_scopes.proofs.LeavesLaws.{int_value_l, call_l, spawn_l, print_l, give_l, jump_l}
 use Rattle.law_scopes.proofs.TextLaws.{Walks, more_extends, bind_w, next_w, done_w, gives_w, looking_w, leaves_w, copies_w, declare_w, declare_number, scoped_w}
 use Rattle.law_scopes.proofs.TextLaws.{IsQuiet, quiet_w, quiet_both, quiet_uses, quiet_none}
 

@@ -7,8 +7,8 @@ use Rattle.cc_core.specs.declared.expression.Expression.TheVariants as e
 use Rattle.cc_core.specs.declared.statement.Statement.{Statement}
 use Rattle.cc_core.specs.declared.statement.Statement.TheVariants as s
 use Rattle.cc_elaboration.specs.Simple.{no_value, print}
-use Rattle.cc_elaboration.specs.Statements.{inside, branch, repeating, between, at_line, plain_int, assigned_value, names, step_value, condition, statements_from}
-use Rattle.cc_elaboration.specs.Statements.{statements, block_of, open_block}
+use Rattle.cc_elaboration.specs.Statements.{inside, branch, repeating, between, at_line, plain_int, assigned_value, names, step_value, condition}
+use Rattle.cc_elaboration.specs.Statements.{statements_from, statements, block_of, open_block}
 use Rattle.cc_elaboration.specs.Statements as elaborated
 use Rattle.cc_elaboration.specs.Statements.{if_only, both, if_else, repeated, step, turn, counted, headed, loop_of, part, parts_from, parts, par}
 use Rattle.cc_elaboration.specs.Statements.{no_step, step_if}
