@@ -107,22 +107,23 @@ pub fn returned(terms: Terms, tokens: &mut Cursor<'_>) -> Result<Stmt, Fault>
     })
 }
 
-/// A word and a semicolon.
-fn jump_by(tokens: &mut Cursor<'_>, word: Keyword, kind: StmtKind) -> Result<Stmt, Fault>
-    ensures { Gives (read.jump_by word kind tokens.old) result tokens.new }
-{
-    let line = tokens.word(word)?;
-    tokens.mark(Mark::Semicolon)?;
-    Ok(Stmt { kind, line })
-}
-
 /// A `break` or a `continue`.
 #[tactic(auto, unfolding(cc_grammar::specs::ReadStatements::jump))]
 pub fn jump(tokens: &mut Cursor<'_>) -> Result<Stmt, Fault>
     ensures { Gives (read.jump tokens.old) result tokens.new }
 {
     if tokens.at_word(Keyword::Break) {
-        return jump_by(tokens, Keyword::Break, StmtKind::Break);
+        let line = tokens.word(Keyword::Break)?;
+        tokens.mark(Mark::Semicolon)?;
+        return Ok(Stmt {
+            kind: StmtKind::Break,
+            line,
+        });
     }
-    jump_by(tokens, Keyword::Continue, StmtKind::Continue)
+    let line = tokens.word(Keyword::Continue)?;
+    tokens.mark(Mark::Semicolon)?;
+    Ok(Stmt {
+        kind: StmtKind::Continue,
+        line,
+    })
 }
