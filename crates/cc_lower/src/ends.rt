@@ -19,47 +19,24 @@ fn end_of_expression(at: u32, e: &Expression) -> Result<u32, AllocError>
     ensures { IfOk result (λ end. end ≡ end_term at (term_of e.now)) }
 {
     match e {
-        Expression::Push(_) => next(at),
-        Expression::This => next(at),
-        Expression::Variable(_) => next(at),
-        Expression::Member(object, _) => {
-            let end = end_of_expression(at, object.get())?;
-            next(end)
-        }
-        Expression::Index(array, _, index) => {
-            let middle = end_of_expression(at, array.get())?;
-            let end = end_of_expression(middle, index.get())?;
-            next(end)
-        }
-        Expression::At(pointer, index) => {
-            let middle = end_of_expression(at, pointer.get())?;
-            let end = end_of_expression(middle, index.get())?;
-            next(end)
-        }
-        Expression::Load(_, place) => {
-            let end = end_of_expression(at, place.get())?;
-            next(end)
-        }
-        Expression::Unary(_, part) => {
+        Expression::Push(_) | Expression::This | Expression::Variable(_) | Expression::New(_, _) =>
+            next(at),
+        Expression::Member(part, _) | Expression::Load(_, part) | Expression::Unary(_, part) => {
             let end = end_of_expression(at, part.get())?;
             next(end)
         }
-        Expression::Binary(_, first, second) => {
+        Expression::Index(first, _, second)
+        | Expression::At(first, second)
+        | Expression::Binary(_, first, second) => {
             let middle = end_of_expression(at, first.get())?;
             let end = end_of_expression(middle, second.get())?;
             next(end)
         }
-        Expression::And(first, second) => {
+        Expression::And(first, second) | Expression::Or(first, second) => {
             let test = end_of_expression(at, first.get())?;
             let end = end_of_expression(next(test)?, second.get())?;
             next(end)
         }
-        Expression::Or(first, second) => {
-            let test = end_of_expression(at, first.get())?;
-            let end = end_of_expression(next(test)?, second.get())?;
-            next(end)
-        }
-        Expression::New(_, _) => next(at),
         Expression::NewObject(_, _, arguments) => {
             let end = end_of_expressions(at, arguments.as_slice())?;
             next(end)
@@ -88,8 +65,7 @@ fn end_of_call(at: u32, how: How) -> Result<u32, AllocError>
     ensures { IfOk result (λ end. end ≡ end_call (how_of how) at) }
 {
     match how {
-        How::Alone => next(at),
-        How::On => next(at),
+        How::Alone | How::On => next(at),
         How::Remote => {
             let join = next(at)?;
             next(join)
@@ -122,15 +98,14 @@ pub(crate) fn end_of_statement(at: u32, s: &Statement) -> Result<u32, AllocError
     match s {
         Statement::Empty => Ok(at),
         Statement::AtLine(_, body) => end_of_statement(at, body.get()),
-        Statement::Make(_, _, _) => next(at),
-        Statement::Set(_, _, e) => end_behind(at, e),
-        Statement::Build(_, _, arguments) => end_behind_all(at, arguments.as_slice()),
+        Statement::Make(_, _, _) | Statement::Break | Statement::Continue => next(at),
+        Statement::Set(_, _, e) | Statement::Drop(e) | Statement::Return(e) => end_behind(at, e),
+        Statement::Build(_, _, es) | Statement::Print(_, es) | Statement::Spawn(_, _, es) =>
+            end_behind_all(at, es.as_slice()),
         Statement::Assign(_, place, value) => {
             let middle = end_of_expression(at, place)?;
             end_behind(middle, value)
         }
-        Statement::Drop(e) => end_behind(at, e),
-        Statement::Print(_, es) => end_behind_all(at, es.as_slice()),
         Statement::If(test, body) => {
             let then = end_behind(at, test)?;
             end_of_statement(then, body.get())
@@ -151,8 +126,6 @@ pub(crate) fn end_of_statement(at: u32, s: &Statement) -> Result<u32, AllocError
             let jump = end_of_statement(again, step.get())?;
             next(jump)
         }
-        Statement::Break => next(at),
-        Statement::Continue => next(at),
         Statement::Par(branches) => {
             let jump = next(at)?;
             let join = end_of_branches(next(jump)?, branches.as_slice())?;
@@ -164,8 +137,6 @@ pub(crate) fn end_of_statement(at: u32, s: &Statement) -> Result<u32, AllocError
             let join = next(end)?;
             next(join)
         }
-        Statement::Spawn(_, _, arguments) => end_behind_all(at, arguments.as_slice()),
-        Statement::Return(e) => end_behind(at, e),
         Statement::Block(body) => end_of_statements(at, body.as_slice()),
     }
 }
