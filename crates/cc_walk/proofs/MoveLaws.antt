@@ -2,13 +2,12 @@
 use Rattle.std.proofs.Common.{◌≡◌, ℕ, ◌≤◌, List, [], length, false, Option, Some, None, refl, sym, ap, ◌∙◌, subst, arith}
 use Rattle.std.proofs.lemmas.Bool.{false≢true}
 use Rattle.std.proofs.lemmas.Option.{none-some, same_Some, slice_get_past}
-use Rattle.std.specs.Prelude.{IsTrue, ◌↔◌, not, slice_get, ℤ, is_some}
+use Rattle.std.specs.Prelude.{IsTrue, ◌↔◌, not, slice_get, is_some}
 use Rattle.std.specs.Option as option
 use Rattle.std.specs.Option.{option_map, option_map_or, option_and_then}
 use Rattle.std.specs.FinMap as fin
 use Rattle.cc_ops.specs.Values as values
 use Rattle.global_ptr.specs.declared.values.Value.{Value as RustValue}
-use Rattle.global_ptr.specs.declared.values.Value.TheVariants as machine
 use Rattle.cc_ops.specs.Machine.{Address, value_of}
 use Rattle.cc_ops.specs.declared.number.ThreadNo.{ThreadNo}
 use Rattle.cc_core.specs.Asks.{Ask, Answer}

@@ -1,6 +1,5 @@
 -- Where no thread of a number can move, the run rests; and what main has ended with.
-use Rattle.std.proofs.Common.{◌≡◌, ℕ, [], Option, None, Some, refl, sym, ap, ◌∙◌, subst}
-use Rattle.std.proofs.lemmas.Option.{none-some}
+use Rattle.std.proofs.Common.{◌≡◌, [], Option, None, Some, refl, sym, ap, ◌∙◌, subst}
 use Rattle.std.specs.Prelude.{ℤ}
 use Rattle.std.specs.FinMap as fin
 use Rattle.cc_ops.specs.Values as values

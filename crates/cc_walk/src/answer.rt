@@ -6,7 +6,7 @@ ghost use Rattle.cc_ops.specs.Shelves.{Shelf, slots_in, home_in};
 ghost use Rattle.cc_core.specs.Core.{function_shape, class_shape};
 ghost use Rattle.cc_core.specs.Needs as needs;
 ghost use Rattle.cc_core.specs.Needs.{most_threads, most_slots, most_calls};
-ghost use Rattle.cc_core.specs.Next.{call_ask, spawn_ask};
+ghost use Rattle.cc_core.specs.Next.{call_ask, spawn_ask, object_ask};
 ghost use Rattle.cc_core.specs.Asks as asks;
 ghost use Rattle.cc_core.specs.View.{how_of, part_of};
 ghost use Rattle.stack_code.specs.View.{code_of};
@@ -65,8 +65,7 @@ impl Asker<'_> {
             Ask::Tests | Ask::Joins(_) => Ok(Effect::found(Found::Nothing)),
             Ask::Makes(kind, count) => self.makes(objects, kind, count),
             Ask::MakesWith(kind, value) => self.makes_with(objects, kind, value),
-            Ask::Constructs(false, class, args) => self.builds(objects, class, args),
-            Ask::Constructs(true, class, args) => self.new_processor(objects, class, args),
+            Ask::Constructs(remote, class, args) => self.constructs(objects, remote, class, args),
             Ask::Calls(how, function, args) => self.calls(objects, how, function, args),
             Ask::Spawns(how, function, args) => self.spawns(how, function, args),
             Ask::Enters(function, this, args) => self.enters(objects, function, this, args),
@@ -110,6 +109,22 @@ impl Asker<'_> {
         cells.push(Cell::started(kind, value))?;
         let address = objects.make(self.processor, cells)?;
         Ok(Effect::one(address))
+    }
+
+    /// A new object, on a processor of its own where it is remote.
+    fn constructs(
+        &self,
+        objects: &mut Objects,
+        remote: bool,
+        class: u32,
+        args: &[Value],
+    ) -> Result<Effect, Stop>
+        ensures { AnswersAsk self.now (object_ask remote class (map value_of args.now)) objects.old result objects.new }
+    {
+        if remote {
+            return self.new_processor(objects, class, args);
+        }
+        self.builds(objects, class, args)
     }
 
     fn builds(&self, objects: &mut Objects, class: u32, args: &[Value]) -> Result<Effect, Stop>

@@ -13,11 +13,10 @@ use crate::arguments::first_of;
 use crate::news::{Awaited, News};
 use crate::walk::Walk;
 use cc_core::How;
-use cc_ops::int_of;
+use cc_ops::{ThreadNo, int_of};
 use ccpp_edge::{Bytes, List};
 use code_thread::{Ask, Look};
 use global_ptr::Value;
-use cc_ops::ThreadNo;
 use std::alloc::AllocError;
 
 /// The thread of `main`.

@@ -26,6 +26,6 @@ mod table;
 mod waits;
 mod walk;
 
-pub use news::{Awaited, News};
 pub use cc_ops::ThreadNo;
+pub use news::{Awaited, News};
 pub use walk::{Stepped, Walk};

@@ -5,10 +5,10 @@ ghost use Rattle.cc_walk.specs.Answered.{inside_after};
 ghost use Rattle.cc_walk.specs.Views.{runner_of, progress_of, ended_as};
 
 use crate::effect::Entry;
+use cc_ops::ThreadNo;
 use ccpp_edge::List;
 use code_thread::{Look, Stack, Thread};
 use global_ptr::Value;
-use cc_ops::ThreadNo;
 use stack_code::Code;
 use std::alloc::{AllocError, Global};
 

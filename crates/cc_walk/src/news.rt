@@ -1,6 +1,6 @@
+use cc_ops::ThreadNo;
 use code_thread::Ask;
 use global_ptr::Value;
-use cc_ops::ThreadNo;
 
 /// What a thread waits for.
 #[derive(Clone, Copy, Debug, PartialEq, Eq, Hash)]

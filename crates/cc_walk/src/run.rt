@@ -24,9 +24,9 @@ use crate::live::{Live, State};
 use crate::news::News;
 use crate::stop::Stop;
 use crate::walk::{Stepped, Walk};
+use cc_ops::ThreadNo;
 use code_thread::{Look, Thread};
 use global_ptr::{ProgFault, Value};
-use cc_ops::ThreadNo;
 use std::alloc::AllocError;
 
 impl Walk {

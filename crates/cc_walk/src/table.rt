@@ -11,10 +11,10 @@ ghost use Rattle.cc_walk.specs.Views.{runner_of, progress_of, live_of};
 
 use crate::limits::MOST_THREADS;
 use crate::live::{Live, State};
+use cc_ops::ThreadNo;
 use ccpp_edge::List;
 use code_thread::Thread;
 use global_ptr::Value;
-use cc_ops::ThreadNo;
 use stack_code::Code;
 use std::alloc::{AllocError, Global};
 use std::marker::Model;

@@ -81,7 +81,7 @@ spot_of spots (Some t) = item_in spots t
 abbrev pub kid_gone : List (List Spot) → List (Option ThreadNo) → ℕ → Bool
 kid_gone spots kids k = is_gone (option_and_then (spot_of spots) (slice_get kids k))
 
--- of a thread on processor q: what it looks up in the machine that is shown, but for threads
+-- what a thread on processor q looks up: what the machine that is shown has, but threads by the spots where they stand
 abbrev pub looks : Mesh → (q : ℕ) → Fiber → Looks Address
 looks m q f = record (numbered.looks (shown m []) q (runs f None [])) {
   ended = kid_gone m.spots f.kids;

@@ -12,11 +12,8 @@ returns-in-Makes c = rw c.in-Makes.is (c.makes.ensures c.args.output.now)
 pub returns-in-MakesWith : goal.returns-in-MakesWith
 returns-in-MakesWith c = rw c.in-MakesWith.is (c.makes_with.ensures c.args.output.now)
 
-pub returns-in-Constructs-true-default-default : goal.returns-in-Constructs-true-default-default
-returns-in-Constructs-true-default-default c = rw c.in-Constructs-true-default-default.is (c.new_processor.ensures c.args.output.now)
-
-pub returns-in-Constructs-false-default-default : goal.returns-in-Constructs-false-default-default
-returns-in-Constructs-false-default-default c = rw c.in-Constructs-false-default-default.is (c.builds.ensures c.args.output.now)
+pub returns-in-Constructs : goal.returns-in-Constructs
+returns-in-Constructs c = rw c.in-Constructs.is (c.constructs.ensures c.args.output.now)
 
 pub returns-in-Calls : goal.returns-in-Calls
 returns-in-Calls c = rw c.in-Calls.is (c.calls.ensures c.args.output.now)

@@ -1,4 +1,4 @@
-use Rattle.std.proofs.Common.{drop, sym, ◌∙◌}
+use Rattle.std.proofs.Common.{sym, ◌∙◌}
 use Rattle.cc_walk.proofs.JoinLaws.{ended_reversed, going_behind}
 use Rattle.cc_walk.proofs.answer.Asker.going.Goals as goal
 
