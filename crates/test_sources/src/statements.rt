@@ -9,7 +9,7 @@ use std::alloc::Global;
 use std::test::Fail;
 
 /// A text, how many levels it may open, what is read, of how many parts, and how many tokens are left.
-const CASES: [(&str, usize, &str, usize, usize); 36] = [
+const CASES: [(&str, usize, &str, usize, usize); 38] = [
     (";", 0, "empty", 0, 0),
     ("{}", 1, "block", 0, 0),
     ("{ a * b; }", 1, "block", 1, 0),
@@ -43,6 +43,8 @@ const CASES: [(&str, usize, &str, usize, usize); 36] = [
     ("par { int a; }", 2, "syntax", 0, 4),
     ("parfor (int a = 0; a < 9; a++) ;", 2, "parfor", 1, 0),
     ("parfor (a = 0; a < 9; a++) ;", 2, "syntax", 0, 12),
+    ("break;", 0, "break", 0, 0),
+    ("continue; a", 0, "continue", 0, 1),
     ("spawn a->f();", 1, "spawn", 0, 0),
     ("return;", 0, "return", 0, 0),
     ("return a; b", 0, "return", 1, 1),
@@ -69,6 +71,8 @@ fn shape(stmt: &Stmt) -> (&'static str, usize) {
         StmtKind::If { .. } => ("if", 2),
         StmtKind::While { .. } => ("while", 1),
         StmtKind::For { start, .. } => ("for", start.len()),
+        StmtKind::Break => ("break", 0),
+        StmtKind::Continue => ("continue", 0),
         StmtKind::Par(stmts) => ("par", stmts.len()),
         StmtKind::ParFor { .. } => ("parfor", 1),
         StmtKind::Spawn(_) => ("spawn", 0),
